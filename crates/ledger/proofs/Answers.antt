@@ -1,0 +1,122 @@
+-- The reads answer alike.
+use Prim.Native.Nat.{ℕ, zero, suc, _+_, _-_, _*_, _/_, _%_, _≤_, _<_}
+use mathlib.Core.Path.{_≡_, refl, sym, ap, _∙_}
+use mathlib.Core.Logic.{_≢_}
+use mathlib.Core.Bool.{Bool, true, false, not, _&&_, cond, and-eq-true-iff}
+use mathlib.Core.List.{List, [], _∷_}
+use mathlib.Core.Option.{Option, none, some}
+use native.Mathlib.Omega.{arith}
+use native.Mathlib.Nat.{mul-le-mul-right}
+use lib.Dec.{eqb, leb, ltb}
+use lib.ListN.{length, getD}
+use borrow.Author.Tests.{leb-true, leb-false, ltb-true}
+use Rattle.metering.specs.Sum.{sumBelow}
+use Rattle.metering.specs.Average.{annual}
+use Rattle.metering.specs.Laws.{between-true}
+use Rattle.metering.specs.Calendar.{liesWithin, windowStart, windowEnd}
+use Rattle.ledger.specs.Method.{Picture, Cell, Totals, isFresh, isBlank, overRunDates, totOn, offOn, peakOn, totalsOn}
+use Rattle.ledger.specs.Checks.{readCheck, totalsInRange, cellInRange}
+use Rattle.ledger.specs.Ledger.{Opening, categories, dates, periods, category, dayType, Ledger, cellBy, cellAt, isPicture, isRun, totalsAt}
+use Rattle.ledger.specs.Store.{durationOf, categoriesOf, datesOf, periodsOf, rowOf, categoryOf, cellIndex, cellOfEntry, isRunAt}
+use Rattle.ledger.specs.Calls.{rowAt, cellFor, totalsFor}
+use Rattle.ledger.proofs.Lists.{by-cases, sumBelow-cong, block-below}
+use Rattle.ledger.proofs.Entries.{cell-entry}
+use Rattle.ledger.proofs.Columns.{cell-small}
+use Rattle.ledger.proofs.Rows.{columnCell, codeIf, run-at}
+use Rattle.ledger.proofs.Relation.{Valid, SettingsAgree, shapes, CellsAgree, Sound}
+use Rattle.ledger.proofs.Runs.{column-is, valid-periods, shapes-small}
+
+-- ---- totals over cells that are alike on run dates
+
+over-cong : (run run′ : ℕ → Bool) (n : ℕ) (f f′ : ℕ → ℕ) (d : ℕ) → ((x : ℕ) → x ≤ d → run x ≡ run′ x) → ((x : ℕ) → x ≤ d → run x ≡ true → f x ≡ f′ x) →
+    overRunDates run n f d ≡ overRunDates run′ n f′ d
+unfolding overRunDates
+over-cong run run′ n f f′ d r h =
+    sumBelow-cong n _ _
+    (λ k l.
+    by-cases (leb k d)
+    (λ q.
+    let below : d - k ≤ d = omega arith in
+    rw (q, ← (r (d - k) below)) (by-cases (run (d - k)) (λ w. rw (w, h (d - k) below w)) (λ w. rw w)))
+    (λ q. rw q))
+
+module _ (duration periods w : ℕ) (run run′ : ℕ → Bool) (cell cell′ : ℕ → ℕ → Cell) (d : ℕ) (same : (x : ℕ) → x ≤ d → run x ≡ run′ x)
+    (alike : (x k : ℕ) → x ≤ d → run x ≡ true → k < periods → cell x (suc k) ≡ cell′ x (suc k)) where
+  tot-cong : (x : ℕ) → x ≤ d → run x ≡ true → totOn duration periods w run cell x ≡ totOn duration periods w run′ cell′ x
+  unfolding totOn
+  tot-cong x h r = sumBelow-cong periods _ _ (λ k l. ap (λ a. a .value) (alike x k h r l))
+
+  off-cong : (x : ℕ) → x ≤ d → run x ≡ true → offOn duration periods w run cell x ≡ offOn duration periods w run′ cell′ x
+  unfolding offOn
+  off-cong x h r = sumBelow-cong periods _ _ (λ k l. ap (λ a. cond (liesWithin duration (windowStart w) (windowEnd w) (suc k)) (a .value) 0) (alike x k h r l))
+
+  peak-cong : (x : ℕ) → x ≤ d → run x ≡ true → peakOn duration periods w run cell x ≡ peakOn duration periods w run′ cell′ x
+  unfolding peakOn
+  peak-cong x h r = rw (tot-cong x h r, off-cong x h r)
+
+  over : (n : ℕ) (f f′ : ℕ → ℕ) → ((x : ℕ) → x ≤ d → run x ≡ true → f x ≡ f′ x) → overRunDates run n f d ≡ overRunDates run′ n f′ d
+  over n f f′ h = over-cong run run′ n f f′ d same h
+
+  pub totals-cong : run d ≡ true → totalsOn duration periods w run cell d ≡ totalsOn duration periods w run′ cell′ d
+  unfolding totalsOn
+  totals-cong r =
+      let days : overRunDates run 365 (λ _. 1) d ≡ overRunDates run′ 365 (λ _. 1) d = over 365 (λ _. 1) (λ _. 1) (λ x h q. refl) in
+      let here : (k : ℕ) → k < periods → cell d (suc k) ≡ cell′ d (suc k) = λ k l. alike d k (omega arith) r l in
+      λ i.
+      record {
+        tot = tot-cong d (omega arith) r i;
+        off = off-cong d (omega arith) r i;
+        peak = peak-cong d (omega arith) r i;
+        tot7 = over 7 _ _ tot-cong i;
+        off7 = over 7 _ _ off-cong i;
+        peak7 = over 7 _ _ peak-cong i;
+        days7 = over 7 (λ _. 1) (λ _. 1) (λ x h q. refl) i;
+        ann = annual (over 365 _ _ tot-cong i) (days i);
+        days = days i;
+        fresh = sumBelow-cong periods (λ k. isFresh (cell d (suc k) .flag)) (λ k. isFresh (cell′ d (suc k) .flag)) (λ k l. ap (λ a. isFresh (a .flag)) (here k l)) i;
+        blanks = sumBelow-cong periods (λ k. isBlank (cell d (suc k) .flag)) (λ k. isBlank (cell′ d (suc k) .flag)) (λ k l. ap (λ a. isBlank (a .flag)) (here k l)) i;
+      }
+
+-- ---- the store's cells are the ledger's
+
+module _ (l : Ledger) (s cells : List ℕ) (agree : SettingsAgree (l .opening) s) (cellsAgree : CellsAgree (l .opening) cells (l .pictures)) (sound : Sound l) where
+  row-is : rowOf s ≡ categories (l .opening) * periods (l .opening)
+  unfolding rowOf periodsOf
+  row-is = rw (agree .categories-are, agree .duration)
+
+  pub run-is : (d : ℕ) → d < dates (l .opening) → isRunAt (rowOf s) cells d ≡ isRun l d
+  unfolding isRun
+  run-is d h =
+      let p = valid-periods (l .opening) (sound .valid) in
+      let c = sound .valid .categories-are in
+      let t = sound .valid .dates-are in
+      rw row-is
+      (run-at (categories (l .opening) * periods (l .opening)) cells d (isPicture (l .pictures d))
+      (columnCell (dayType (l .opening)) (λ x. isPicture (l .pictures x)) (shapes (l .opening) (l .pictures)) 0 d)
+      (cell-small (dayType (l .opening)) (λ x. isPicture (l .pictures x)) (shapes (l .opening) (l .pictures) 0) (shapes-small (l .opening) (l .pictures) (sound .pictures-are) 0) d (omega arith))
+      (cellsAgree .are d 0 h (omega (arith, mul-le-mul-right (periods (l .opening)) (c .0)))))
+
+  pub cell-is : (d c k : ℕ) → d < dates (l .opening) → c < categories (l .opening) → k < periods (l .opening) → isRun l d ≡ true → cellFor s cells d c (suc k) ≡ cellAt l d c (suc k)
+  unfolding cellFor cellIndex isRun cellAt periodsOf rowAt
+  cell-is d c k hd hc hk r =
+      let t = sound .valid .dates-are in
+      let n = categories (l .opening) * periods (l .opening) in
+      let place = c * periods (l .opening) + k in
+      rw (agree .categories-are, agree .duration, pred-suc k)
+      (ap cellOfEntry (cellsAgree .are d place hd (block-below (periods (l .opening)) (categories (l .opening)) c k hc hk) ∙ rw r)
+      ∙ cell-entry (columnCell (dayType (l .opening)) (λ x. isPicture (l .pictures x)) (shapes (l .opening) (l .pictures)) place d)
+      (cell-small (dayType (l .opening)) (λ x. isPicture (l .pictures x)) (shapes (l .opening) (l .pictures) place) (shapes-small (l .opening) (l .pictures) (sound .pictures-are) place) d (omega arith))
+      ∙ column-is (l .opening) (l .pictures) c k d hk)
+    where
+      pred-suc : (k : ℕ) → suc k - 1 ≡ k
+      pred-suc k = omega arith
+
+  pub totals-are : (d c : ℕ) → d < dates (l .opening) → c < categories (l .opening) → isRun l d ≡ true → totalsFor s cells d c ≡ totalsAt l d c
+  unfolding totalsFor totalsAt periodsOf
+  totals-are d c hd hc r =
+      rw (agree .duration, agree .records c hc)
+      (totals-cong (l .opening .duration) (periods (l .opening)) (category (l .opening) c .window) (isRunAt (rowOf s) cells) (isRun l)
+      (λ x j. cellFor s cells x c j) (λ x j. cellAt l x c j) d
+      (λ x h. run-is x (omega arith))
+      (λ x k h q m. cell-is x c k (omega arith) hc m (sym (run-is x (omega arith)) ∙ q))
+      (run-is d hd ∙ r))

@@ -1,0 +1,136 @@
+-- Laws of lists and sums that the proof of agreement and the code's proofs cite.
+use Prim.Native.Nat.{ℕ, zero, suc, _+_, _-_, _*_, _/_, _%_, _≤_, _<_, min, zero-le}
+use mathlib.Core.Path.{_≡_, refl, sym, ap, _∙_}
+use mathlib.Core.Logic.{_≢_, _⊎_, ⊎-elim}
+use mathlib.Core.Bool.{Bool, true, false, not, _&&_, _||_, cond}
+use mathlib.Core.List.{List, [], _∷_, _++_}
+use native.Mathlib.Omega.{arith}
+use native.Mathlib.Numerals.{add-one}
+use native.Mathlib.Nat.{zero-add, add-zero, add-suc, suc-add, suc-mul, zero-mul, eq-or-lt-of-le, le-of-suc-le-suc, not-suc-le-zero, mul-le-mul-right, lt-irrefl}
+use lib.ListN.{length, getD, take, drop, set, length-append, length-take, length-drop, List·getD-append, length-set}
+use lib.Seq.{sets, length-sets, getD-set-same, getD-set-other, getD-append-add, getD-take, getD-drop, length-take-le}
+use lib.Arith.{digits-div, digits-mod}
+use lib.Dec.{eqb}
+use borrow.Author.Tests.{eq-eqb, ne-eqb, eqb-true, eqb-false}
+use Rattle.metering.specs.Sum.{sumBelow, sumBelow-zero, sumBelow-suc}
+use Rattle.ledger.specs.Table.{tabulate}
+
+-- both ways of a test, with its equation
+pub by-cases : {P : Type 0} (b : Bool) → (b ≡ true → P) → (b ≡ false → P) → P
+by-cases true f g = f refl
+by-cases false f g = g refl
+
+-- what holds below n and at n holds below suc n
+pub below-suc : (P : ℕ → Type 0) (n : ℕ) → ((k : ℕ) → k < n → P k) → P n → (k : ℕ) → k < suc n → P k
+below-suc P n all here k h = ⊎-elim (λ e. rw e here) (λ l. all k l) (eq-or-lt-of-le (le-of-suc-le-suc h))
+
+-- ---- a run of stores
+
+pub getD-sets-below : (vs l : List ℕ) (at j : ℕ) → j < at → getD (sets l at vs) j 0 ≡ getD l j 0
+getD-sets-below [] l at j h = refl
+getD-sets-below (v ∷ vs) l at j h =
+    getD-sets-below vs (set l at v) (suc at) j (omega arith) ∙ getD-set-other l at j v 0 (λ (e : j ≡ at). omega arith)
+
+pub getD-sets-above : (vs l : List ℕ) (at j : ℕ) → at + length vs ≤ j → getD (sets l at vs) j 0 ≡ getD l j 0
+getD-sets-above [] l at j h = refl
+getD-sets-above (v ∷ vs) l at j h =
+    getD-sets-above vs (set l at v) (suc at) j (omega arith) ∙ getD-set-other l at j v 0 (λ (e : j ≡ at). omega arith)
+
+pub getD-sets-at : (vs l : List ℕ) (at j : ℕ) → j < length vs → at + length vs ≤ length l → getD (sets l at vs) (at + j) 0 ≡ getD vs j 0
+getD-sets-at [] l at j h k = absurd (not-suc-le-zero h)
+getD-sets-at (v ∷ vs) l at zero h k =
+    rw (add-zero) (getD-sets-below vs (set l at v) (suc at) at (omega arith) ∙ getD-set-same l at v 0 (omega arith))
+getD-sets-at (v ∷ vs) l at (suc j) h k =
+    rw (add-suc at j, ← suc-add at j) (getD-sets-at vs (set l at v) (suc at) j (omega arith) (rw length-set (omega arith)))
+
+-- ---- a list made from a function
+
+pub length-tabulate : (n : ℕ) (f : ℕ → ℕ) → length (tabulate n f) ≡ n
+unfolding tabulate
+length-tabulate zero f = refl
+length-tabulate (suc n) f = length-append (tabulate n f) (f n ∷ []) ∙ rw (length-tabulate n f) (add-one n)
+
+pub getD-tabulate : (n : ℕ) (f : ℕ → ℕ) (k : ℕ) → k < n → getD (tabulate n f) k 0 ≡ f k
+unfolding tabulate
+getD-tabulate zero f k h = absurd (not-suc-le-zero h)
+getD-tabulate (suc n) f k h =
+    ⊎-elim
+    (λ (e : k ≡ n). rw e (getD-at-end n))
+    (λ (l : k < n). List·getD-append (tabulate n f) (f n ∷ []) 0 k (rw length-tabulate l) ∙ getD-tabulate n f k l)
+    (eq-or-lt-of-le (le-of-suc-le-suc h))
+  where
+    getD-at-end : (m : ℕ) → getD (tabulate m f ++ (f m ∷ [])) m 0 ≡ f m
+    getD-at-end m =
+        ap (λ (x : ℕ). getD (tabulate m f ++ (f m ∷ [])) x 0) (sym (add-zero m) ∙ ap (λ (x : ℕ). x + 0) (sym (length-tabulate m f)))
+        ∙ getD-append-add (tabulate m f) (f m ∷ []) 0 0
+
+-- ---- sums
+
+pub sumBelow-cong : (n : ℕ) (f g : ℕ → ℕ) → ((k : ℕ) → k < n → f k ≡ g k) → sumBelow n f ≡ sumBelow n g
+unfolding sumBelow
+sumBelow-cong zero f g h = refl
+sumBelow-cong (suc n) f g h = rw (sumBelow-cong n f g (λ k l. h k (omega arith)), h n (omega arith))
+
+pub sumBelow-none : (n : ℕ) (f : ℕ → ℕ) → ((k : ℕ) → k < n → f k ≡ 0) → sumBelow n f ≡ 0
+unfolding sumBelow
+sumBelow-none zero f h = refl
+sumBelow-none (suc n) f h = rw (sumBelow-none n f (λ k l. h k (omega arith)), h n (omega arith))
+
+pub none-of-sum : (n : ℕ) (f : ℕ → ℕ) → sumBelow n f ≡ 0 → (k : ℕ) → k < n → f k ≡ 0
+unfolding sumBelow
+none-of-sum zero f h k l = absurd (not-suc-le-zero l)
+none-of-sum (suc n) f h k l = below-suc (λ x. f x ≡ 0) n (none-of-sum n f (omega arith)) (omega arith) k l
+
+pub sumBelow-plus : (n : ℕ) (f g : ℕ → ℕ) → sumBelow n (λ k. f k + g k) ≡ sumBelow n f + sumBelow n g
+unfolding sumBelow
+sumBelow-plus zero f g = refl
+sumBelow-plus (suc n) f g = let h = sumBelow-plus n f g in omega arith
+
+pub sumBelow-le : (n : ℕ) (f : ℕ → ℕ) (b : ℕ) → ((k : ℕ) → k < n → f k ≤ b) → sumBelow n f ≤ n * b
+unfolding sumBelow
+sumBelow-le zero f b h = zero-le
+sumBelow-le (suc n) f b h =
+    let p = sumBelow-le n f b (λ k l. h k (omega arith)) in
+    let q = h n (omega arith) in
+    omega arith
+
+pub sumBelow-more : (m n : ℕ) (f : ℕ → ℕ) → sumBelow (m + n) f ≡ sumBelow m f + sumBelow n (λ k. f (m + k))
+unfolding sumBelow
+sumBelow-more m zero f = rw (add-zero) (sym (add-zero (sumBelow m f)))
+sumBelow-more m (suc n) f =
+    rw (add-suc m n, sumBelow-suc) (let h = sumBelow-more m n f in omega arith)
+
+-- all but one of the terms are nothing
+pub sumBelow-one : (n c : ℕ) (f : ℕ → ℕ) → c < n → sumBelow n (λ k. cond (eqb k c) (f k) 0) ≡ f c
+unfolding sumBelow
+sumBelow-one zero c f h = absurd (not-suc-le-zero h)
+sumBelow-one (suc n) c f h =
+    ⊎-elim
+    (λ (e : c ≡ n).
+    rw (sumBelow-none n (λ k. cond (eqb k c) (f k) 0) (λ k l. rw (ne-eqb k c (λ (q : k ≡ c). omega arith))), eq-eqb n c (sym e), zero-add)
+    (ap f (sym e)))
+    (λ (l : c < n). rw (sumBelow-one n c f l, ne-eqb n c (λ (q : n ≡ c). omega arith)) (add-zero (f c)))
+    (eq-or-lt-of-le (le-of-suc-le-suc h))
+
+-- rows of P side by side
+pub sumBelow-rows : (C P : ℕ) (f : ℕ → ℕ) → sumBelow C (λ c. sumBelow P (λ p. f (c * P + p))) ≡ sumBelow (C * P) f
+unfolding sumBelow
+sumBelow-rows zero P f = rw zero-mul
+sumBelow-rows (suc C) P f = rw (suc-mul C P, sumBelow-more (C * P) P f, sumBelow-rows C P f)
+
+-- ---- places in blocks of s
+
+pub block-other : (s q j r k : ℕ) → q ≢ r → j < s → k < s → q * s + j ≢ r * s + k
+block-other s q j r k other hj hk e = other (sym (digits-div q hj) ∙ ap (λ (x : ℕ). x / s) e ∙ digits-div r hk)
+
+pub block-below : (s T q j : ℕ) → q < T → j < s → q * s + j < T * s
+block-below s T q j hq hj = omega (arith, mul-le-mul-right s hq)
+
+-- ---- cut and put back
+
+pub getD-cut : (n : ℕ) (xs : List ℕ) (i : ℕ) → i < n → getD (take n xs) i 0 ≡ getD xs i 0
+getD-cut n xs i h = getD-take n xs i 0 h
+
+-- the first entries of a list of the length of the cut part, put back
+pub getD-back : (n : ℕ) (xs ys : List ℕ) (i : ℕ) → i < length ys → getD (ys ++ drop n xs) i 0 ≡ getD ys i 0
+getD-back n xs ys i h = List·getD-append ys (drop n xs) 0 i h

@@ -1,0 +1,201 @@
+-- An accepted opening gives the relation.
+use Prim.Native.Nat.{ℕ, zero, suc, _+_, _-_, _*_, _/_, _%_, _≤_, _<_}
+use mathlib.Core.Path.{_≡_, refl, sym, ap, _∙_}
+use mathlib.Core.Logic.{_⊎_, ⊎-elim}
+use mathlib.Core.Bool.{Bool, true, false, not, _&&_, _||_, cond, and-eq-true-iff, true≢false}
+use mathlib.Core.List.{List, [], _∷_, _++_}
+use mathlib.Core.Option.{Option, none, some}
+use native.Mathlib.Omega.{arith}
+use native.Mathlib.Nat.{add-zero, zero-add, add-assoc}
+use lib.Dec.{eqb, leb, ltb}
+use lib.ListN.{length, getD, take, drop, replicate, length-append, length-drop, length-replicate, getD-replicate, List·getD-append}
+use lib.Seq.{getD-append-add, getD-drop}
+use borrow.Author.Tests.{eqb-true, eq-eqb, leb-true, ltb-false}
+use Rattle.metering.specs.Range.{between, metersInRange, categoriesInRange, datesInRange}
+use Rattle.metering.specs.Calendar.{durationKnown, periodsPerDay}
+use Rattle.metering.specs.Laws.{between-true, duration-is}
+use Rattle.ledger.specs.Method.{Category, categoryAt, Picture}
+use Rattle.ledger.specs.Checks.{Verdict, verdict, firstFailed, categoryNumber, dayTypeNumber, orElse, sizesValid, openingCheck}
+use Rattle.ledger.specs.Sizes.{settingsLength, metersLength, readingsLength, cellsLength}
+use Rattle.ledger.specs.Ledger.{Opening, categories, dates, periods, category, dayType, Meter, Ledger, start, isPicture}
+use Rattle.ledger.specs.Store.{word, wordBytes, durationOf, metersOf, categoriesOf, datesOf, categoryOf, dayTypeOf, mpanAt, registrationIndex, registrationAt, setIndex, isHeldAt}
+use Rattle.ledger.specs.Calls.{OpeningCall, openingShort, openingVerdict, emptied, openedSettings, openedMeters, openedReadings, openedCells, rowAt}
+use Rattle.ledger.specs.Engine.{opening}
+use Rattle.ledger.proofs.Lists.{by-cases, block-below}
+use Rattle.ledger.proofs.Relation.{Valid, SettingsAgree, FreeAt, MetersAgree, NotHeldAt, ReadingsAgree, CellsAgree, Sound}
+use Rattle.ledger.proofs.Receive.{set-below}
+
+-- ---- what an accepted opening tells
+
+passed-verdict : (b : Bool) (n : ℕ) (rest : Verdict) → (cond b (verdict (suc n)) rest) .number ≡ 0 → (b ≡ false) × (rest .number ≡ 0)
+passed-verdict true n rest e = absurd (omega arith)
+passed-verdict false n rest e = (refl, e)
+
+passed-else : (a b : Verdict) → orElse a b .number ≡ 0 → (a .number ≡ 0) × (b .number ≡ 0)
+unfolding orElse
+passed-else a b e =
+    by-cases (eqb (a .number) 0)
+    (λ q. (eqb-true (a .number) 0 q, rw q at e))
+    (λ q. let z : a .number ≡ 0 = rw q at e in absurd (true≢false (sym (eq-eqb (a .number) 0 z) ∙ q)))
+
+not-false : (b : Bool) → not b ≡ false → b ≡ true
+not-false true e = refl
+not-false false e = absurd (true≢false e)
+
+neither : (a b : Bool) → (a || b) ≡ false → (a ≡ false) × (b ≡ false)
+neither true b e = absurd (true≢false e)
+neither false b e = (refl, e)
+
+pub record Opened (settings meters readings cells : List ℕ) (a : OpeningCall) : Type 0 where
+  pub valid : Valid (opening a)
+  pub settings-long : settingsLength (length (a .categoryBytes) / 8) (length (a .dayTypes)) ≤ length settings
+  pub meters-long : metersLength (a .meters) ≤ length meters
+  pub readings-long : readingsLength (a .meters) (length (a .dayTypes)) (periodsPerDay (a .duration)) ≤ length readings
+  pub cells-long : cellsLength (length (a .categoryBytes) / 8) (length (a .dayTypes)) (periodsPerDay (a .duration)) ≤ length cells
+
+pub opening-accepted : (settings meters readings cells : List ℕ) (a : OpeningCall) → openingVerdict settings meters readings cells a .number ≡ 0 → Opened settings meters readings cells a
+unfolding openingVerdict openingCheck openingShort sizesValid metersInRange categoriesInRange datesInRange
+opening-accepted settings meters readings cells a e =
+    let p3 = passed-verdict (not (durationKnown (a .duration) && between 1 1024 (a .meters) && eqb (length (a .categoryBytes) % 8) 0 && between 1 64 (length (a .categoryBytes) / 8) && between 1 800 (length (a .dayTypes)))) 2 _ e in
+    let p4 = passed-else (firstFailed (categoryNumber (a .categoryBytes)) (length (a .categoryBytes) / 8) 0) _ (p3 .1) in
+    let p5 = passed-else (firstFailed (dayTypeNumber (a .dayTypes)) (length (a .dayTypes)) 0) _ (p4 .1) in
+    let sizes = not-false _ (p3 .0) in
+    let t = and-eq-true-iff (durationKnown (a .duration) && between 1 1024 (a .meters) && eqb (length (a .categoryBytes) % 8) 0 && between 1 64 (length (a .categoryBytes) / 8)) (between 1 800 (length (a .dayTypes))) .0 sizes in
+    let c = and-eq-true-iff (durationKnown (a .duration) && between 1 1024 (a .meters) && eqb (length (a .categoryBytes) % 8) 0) (between 1 64 (length (a .categoryBytes) / 8)) .0 (t .0) in
+    let w = and-eq-true-iff (durationKnown (a .duration) && between 1 1024 (a .meters)) (eqb (length (a .categoryBytes) % 8) 0) .0 (c .0) in
+    let d = and-eq-true-iff (durationKnown (a .duration)) (between 1 1024 (a .meters)) .0 (w .0) in
+    let long = shorts _ (p5 .1) in
+    let s3 = neither _ (ltb (length cells) (cellsLength (length (a .categoryBytes) / 8) (length (a .dayTypes)) (periodsPerDay (a .duration)))) long in
+    let s2 = neither _ (ltb (length readings) (readingsLength (a .meters) (length (a .dayTypes)) (periodsPerDay (a .duration)))) (s3 .0) in
+    let s1 = neither (ltb (length settings) (settingsLength (length (a .categoryBytes) / 8) (length (a .dayTypes)))) (ltb (length meters) (metersLength (a .meters))) (s2 .0) in
+    record {
+      valid =
+          record {
+            duration = duration-is (a .duration) (d .0);
+            meters = between-true 1 1024 (a .meters) .0 (d .1);
+            categories-are = between-true 1 64 (length (a .categoryBytes) / 8) .0 (c .1);
+            dates-are = between-true 1 800 (length (a .dayTypes)) .0 (t .1);
+            whole = let z = eqb-true (length (a .categoryBytes) % 8) 0 (w .1) in omega arith;
+          };
+      settings-long = ltb-false _ _ (s1 .0);
+      meters-long = ltb-false _ _ (s1 .1);
+      readings-long = ltb-false _ _ (s2 .1);
+      cells-long = ltb-false _ _ (s3 .1);
+    }
+  where
+    shorts : (b : Bool) → (verdict (cond b 1 0)) .number ≡ 0 → b ≡ false
+    shorts true e = absurd (omega arith)
+    shorts false e = refl
+
+-- ---- settings
+
+module _ (a : OpeningCall) (settings : List ℕ) (whole : length (a .categoryBytes) ≡ 8 * (length (a .categoryBytes) / 8)) where
+  rest : List ℕ
+  rest = drop (settingsLength (length (a .categoryBytes) / 8) (length (a .dayTypes))) settings
+
+  two : (n : ℕ) → 256 * (n / 256) + n % 256 ≡ n
+  two n = omega arith
+
+  drop-is : drop 8 (openedSettings a settings) ≡ a .categoryBytes ++ a .dayTypes ++ rest
+  unfolding openedSettings wordBytes rest
+  drop-is = refl
+
+  byte-is : (i : ℕ) → i < length (a .categoryBytes) → getD (drop 8 (openedSettings a settings)) i 0 ≡ getD (a .categoryBytes) i 0
+  byte-is i h =
+      rw drop-is
+      (List·getD-append (a .categoryBytes ++ a .dayTypes) rest 0 i (rw (length-append (a .categoryBytes) (a .dayTypes)) (omega arith))
+      ∙ List·getD-append (a .categoryBytes) (a .dayTypes) 0 i h)
+
+  record-is : (c : ℕ) → c < length (a .categoryBytes) / 8 → categoryOf (openedSettings a settings) c ≡ categoryAt (a .categoryBytes) c
+  unfolding categoryOf categoryAt
+  record-is c h =
+      λ i.
+      record {
+        segment = byte-is (8 * c) (omega (arith, whole)) i;
+        group = byte-is (8 * c + 1) (omega (arith, whole)) i;
+        domestic = byte-is (8 * c + 2) (omega (arith, whole)) i;
+        quantity = byte-is (8 * c + 3) (omega (arith, whole)) i;
+        connection = byte-is (8 * c + 4) (omega (arith, whole)) i;
+        window = byte-is (8 * c + 5) (omega (arith, whole)) i;
+        deMinimis = 256 * byte-is (8 * c + 6) (omega (arith, whole)) i + byte-is (8 * c + 7) (omega (arith, whole)) i;
+      }
+
+  categories-is : categoriesOf (openedSettings a settings) ≡ length (a .categoryBytes) / 8
+  unfolding categoriesOf word openedSettings wordBytes
+  categories-is = two (length (a .categoryBytes) / 8)
+
+  type-is : (d : ℕ) → d < length (a .dayTypes) → dayTypeOf (openedSettings a settings) d ≡ getD (a .dayTypes) d 0
+  unfolding dayTypeOf
+  type-is d h =
+      rw (categories-is, ← whole)
+      (ap (λ i. getD (openedSettings a settings) i 0) (add-assoc 8 (length (a .categoryBytes)) d)
+      ∙ sym (getD-drop 8 (openedSettings a settings) (length (a .categoryBytes) + d) 0)
+      ∙ rw drop-is
+      (List·getD-append (a .categoryBytes ++ a .dayTypes) rest 0 (length (a .categoryBytes) + d) (rw (length-append (a .categoryBytes) (a .dayTypes)) (omega arith))
+      ∙ getD-append-add (a .categoryBytes) (a .dayTypes) d 0))
+
+  pub settings-length : settingsLength (length (a .categoryBytes) / 8) (length (a .dayTypes)) ≤ length settings → length (openedSettings a settings) ≡ length settings
+  unfolding openedSettings wordBytes settingsLength
+  settings-length h =
+      let x = length-append (a .categoryBytes ++ a .dayTypes) (drop (8 + 8 * (length (a .categoryBytes) / 8) + length (a .dayTypes)) settings) in
+      let y = length-append (a .categoryBytes) (a .dayTypes) in
+      let z = length-drop (8 + 8 * (length (a .categoryBytes) / 8) + length (a .dayTypes)) settings in
+      omega (arith, whole)
+
+  pub settings-agree : settingsLength (length (a .categoryBytes) / 8) (length (a .dayTypes)) ≤ length settings → SettingsAgree (opening a) (openedSettings a settings)
+  unfolding durationOf metersOf datesOf word openedSettings wordBytes
+  settings-agree h =
+      record {
+        duration = two (a .duration);
+        meters = two (a .meters);
+        categories-are = categories-is;
+        dates-are = two (length (a .dayTypes));
+        records = record-is;
+        types = type-is;
+        long = rw (settings-length h) h;
+      }
+
+-- ---- the other parts are emptied
+
+pub emptied-at : (n : ℕ) (xs : List ℕ) (i : ℕ) → i < n → getD (emptied n xs) i 0 ≡ 0
+unfolding emptied
+emptied-at n xs i h = List·getD-append (replicate n 0) (drop n xs) 0 i (rw (length-replicate {A = ℕ} n 0) h) ∙ getD-replicate {A = ℕ} n i 0 0 h
+
+pub emptied-length : (n : ℕ) (xs : List ℕ) → n ≤ length xs → length (emptied n xs) ≡ length xs
+unfolding emptied
+emptied-length n xs h = length-append (replicate n 0) (drop n xs) ∙ rw (length-replicate {A = ℕ} n 0, length-drop n xs) (omega arith)
+
+pub meters-agree : (o : Opening) (xs : List ℕ) → metersLength (o .meters) ≤ length xs → MetersAgree o (emptied (metersLength (o .meters)) xs) []
+meters-agree o xs h = record { slots = (omega arith, λ x l m. free x m); long = rw (emptied-length (metersLength (o .meters)) xs h) h }
+  where
+    entry : (x k : ℕ) → x < o .meters → k < 8 → registrationIndex (o .meters) x k + 3 < metersLength (o .meters)
+    entry x k m l = unfold registrationIndex metersLength in omega arith
+
+    first : (x : ℕ) → x < o .meters → x < metersLength (o .meters)
+    first x m = unfold metersLength in omega arith
+
+    free : (x : ℕ) → x < o .meters → FreeAt (o .meters) (emptied (metersLength (o .meters)) xs) x
+    free x m =
+        record {
+          no-mpan = unfold mpanAt in emptied-at (metersLength (o .meters)) xs x (first x m);
+          unused = λ k l. unfold registrationAt in emptied-at (metersLength (o .meters)) xs (registrationIndex (o .meters) x k + 3) (entry x k m l);
+        }
+
+pub readings-agree : (o : Opening) (xs : List ℕ) → readingsLength (o .meters) (dates o) (periods o) ≤ length xs → ReadingsAgree o (emptied (readingsLength (o .meters) (dates o) (periods o)) xs) []
+unfolding isHeldAt
+readings-agree o xs h =
+    record {
+      slots = (omega arith, λ x l m d k. rw (emptied-at (readingsLength (o .meters) (dates o) (periods o)) xs _ (below x m d k)));
+      long = rw (emptied-length (readingsLength (o .meters) (dates o) (periods o)) xs h) h;
+    }
+  where
+    below : (x : ℕ) → x < o .meters → (d : ℕ) → d < dates o → setIndex (o .meters) (periods o) d x < readingsLength (o .meters) (dates o) (periods o)
+    below x m d k = let b = set-below (o .meters) (periods o) (dates o) d x 0 k m (omega arith) in omega arith
+
+pub cells-agree : (o : Opening) (xs : List ℕ) → cellsLength (categories o) (dates o) (periods o) ≤ length xs → CellsAgree o (emptied (cellsLength (categories o) (dates o) (periods o)) xs) (λ d. none)
+unfolding rowAt cellsLength
+cells-agree o xs h =
+    record {
+      are = λ x k l m. emptied-at (dates o * (categories o * periods o)) xs (x * (categories o * periods o) + k) (block-below (categories o * periods o) (dates o) x k l m);
+      long = rw (emptied-length (dates o * (categories o * periods o)) xs h) h;
+    }

@@ -1,0 +1,258 @@
+-- A run keeps the relation, and what it reports is the number of the ledger's cells that differ.
+use Prim.Native.Nat.{ℕ, zero, suc, _+_, _-_, _*_, _/_, _%_, _≤_, _<_, zero-le}
+use mathlib.Core.Path.{_≡_, refl, sym, ap, _∙_, fun-ext}
+use mathlib.Core.Logic.{_≢_, ⊎-elim}
+use mathlib.Core.Bool.{Bool, true, false, _&&_, cond, and-eq-true-iff}
+use mathlib.Core.List.{List, [], _∷_, _++_}
+use mathlib.Core.Option.{Option, none, some}
+use native.Mathlib.Omega.{arith}
+use native.Mathlib.Nat.{mod-lt, div-lt-iff-lt-mul, add-zero, mul-le-mul-right}
+use lib.Arith.{digits-div, digits-mod}
+use lib.Dec.{eqb, leb}
+use lib.ListN.{length, length-append}
+use borrow.Author.Tests.{eq-eqb, ne-eqb, eqb-true, leb-true}
+use Rattle.metering.specs.Sum.{sumBelow}
+use Rattle.metering.specs.Average.{average}
+use Rattle.metering.specs.Laws.{average-le}
+use Rattle.metering.specs.Calendar.{periodsPerDay}
+use Rattle.ledger.specs.Method.{Category, isSmart, sameFamily, ReadingSet, Entry, Picture, wattHours, present, total, Fresh, absent, own, pooled, freshOf, freshIn, Cell, movedCell, Day, cellOn}
+use Rattle.ledger.specs.Checks.{Registration, later, inForceAfter, inForce}
+use Rattle.ledger.specs.Sizes.{cellsLength}
+use Rattle.ledger.specs.Ledger.{Opening, categories, dates, periods, category, dayType, Meter, Ledger, at, dayOf, cellBy, isPicture, entriesOf, pictureOf, movedBetween}
+use Rattle.ledger.specs.Table.{tabulate}
+use Rattle.ledger.specs.Store.{metersOf, categoriesOf, datesOf, periodsOf, rowOf, categoryOf, dayTypeOf}
+use Rattle.ledger.specs.Calls.{tally, familyTally, freshAt, carriedEntry, rowEntry, rowAt, putRow, lastRun, overFrom, seen, differing, Ran, carryOn, newRow, ranFrom}
+use Rattle.ledger.proofs.Lists.{by-cases, sumBelow-cong, sumBelow-rows}
+use Rattle.ledger.proofs.Entries.{SmallFresh}
+use Rattle.ledger.proofs.Columns.{dayIf}
+use Rattle.ledger.proofs.Rows.{columnDay, columnCell, CellsAre, RunLeaves, run-good}
+use Rattle.ledger.proofs.Relation.{Valid, SmallSet, SoundRegistrations, SoundMeter, SoundMeters, SoundPicture, SettingsAgree, MetersFrom, MetersAgree, ReadingsAgree, shapeOf, shapes, CellsAgree, Sound}
+use Rattle.ledger.proofs.Tallies.{count-le, sum-le, family-total, tally-is}
+
+-- ---- own shapes have room
+
+average-small : (s n : ℕ) → 1 ≤ n → s ≤ n * 4294967295 → average s n < 4294967296
+average-small s n h l = let p = average-le s n 4294967295 h l in omega arith
+
+fresh-small : (a : Category) (s n S K : ℕ) → s ≤ n * 4294967295 → n ≤ 1024 → S ≤ K * 4294967295 → K ≤ 1024 → SmallFresh (freshOf a s n S K)
+unfolding freshOf
+fresh-small a s n S K l m L k =
+    by-cases (leb 1 n && leb (a .deMinimis) n)
+    (λ e. rw e (average-small s n (leb-true 1 n (and-eq-true-iff (leb 1 n) (leb (a .deMinimis) n) .0 e .0)) l, omega arith))
+    (λ e.
+    rw e
+    (by-cases (isSmart a && leb 1 K && leb (a .deMinimis) K)
+    (λ q. rw q (average-small S K (leb-true 1 K (and-eq-true-iff (isSmart a) (leb 1 K) .0 (and-eq-true-iff (isSmart a && leb 1 K) (leb (a .deMinimis) K) .0 q .0) .1)) L, omega arith))
+    (λ q. rw q tt)))
+
+pub picture-small : (C : ℕ) (categoryOf : ℕ → Category) (p : Picture) → SoundPicture C p → length p ≤ 1024 → (c j : ℕ) → SmallFresh (freshIn categoryOf p c j)
+unfolding freshIn
+picture-small C categoryOf p s few c j =
+    let n = count-le (eqb c) p j in
+    let k = count-le (λ b. sameFamily (categoryOf c) (categoryOf b)) p j in
+    fresh-small (categoryOf c) _ _ _ _
+    (sum-le C (eqb c) p j s)
+    (omega arith)
+    (sum-le C (λ b. sameFamily (categoryOf c) (categoryOf b)) p j s)
+    (omega arith)
+
+-- ---- the picture of a date
+
+abbrev Named : ℕ → Option Registration → Type 0
+Named C none = Unit {0}
+Named C (some r) = r .category < C
+
+later-named : (C date : ℕ) (best : Option Registration) (r : Registration) → Named C best → r .category < C → Named C (later date best r)
+unfolding later
+later-named C date none r b h = (elim (leb (r .start) date) as (λ q. Named C (cond q (some r) none)) [ true ↦ h | false ↦ tt ])
+later-named C date (some x) r b h = (elim (leb (r .start) date && leb (x .start) (r .start)) as (λ q. Named C (cond q (some r) (some x))) [ true ↦ h | false ↦ b ])
+
+force-named : (C date : ℕ) (best : Option Registration) (rs : List Registration) → Named C best → SoundRegistrations C rs → Named C (inForceAfter date best rs)
+unfolding inForceAfter
+force-named C date best [] b s = b
+force-named C date best (r ∷ rs) b s = force-named C date (later date best r) rs (later-named C date best r b (s .0)) (s .2)
+
+sound-append : (C : ℕ) (a b : Picture) → SoundPicture C a → SoundPicture C b → SoundPicture C (a ++ b)
+sound-append C [] b s t = t
+sound-append C (e ∷ es) b s t = (s .0, s .1, sound-append C es b (s .2) t)
+
+pub picture-sound : (C date : ℕ) (ms : List Meter) → SoundMeters C ms → SoundPicture C (pictureOf date ms)
+unfolding pictureOf inForce
+picture-sound C date [] s = tt
+picture-sound C date (m ∷ ms) s =
+    sound-append C (entriesOf (m .held date) (inForceAfter date none (m .registrations))) (pictureOf date ms) (entry (m .held date) refl (inForceAfter date none (m .registrations)) (force-named C date none (m .registrations) tt (s .0 .registered))) (picture-sound C date ms (s .1))
+  where
+    entry : (x : Option ReadingSet) → m .held date ≡ x → (r : Option Registration) → Named C r → SoundPicture C (entriesOf x r)
+    entry none e r n = tt
+    entry (some x) e none n = tt
+    entry (some x) e (some r) n = (n, s .0 .small date x e, tt)
+
+entries-le : (x : Option ReadingSet) (r : Option Registration) → length (entriesOf x r) ≤ 1
+entries-le none r = zero-le
+entries-le (some x) none = zero-le
+entries-le (some x) (some r) = omega arith
+
+pub picture-le : (date : ℕ) (ms : List Meter) → length (pictureOf date ms) ≤ length ms
+unfolding pictureOf
+picture-le date [] = zero-le
+picture-le date (m ∷ ms) =
+    rw (length-append (entriesOf (m .held date) (inForce date (m .registrations))) (pictureOf date ms))
+    (let h = picture-le date ms in let e = entries-le (m .held date) (inForce date (m .registrations)) in omega arith)
+
+-- ---- what the store's sums give is the picture's own shape
+
+module _ (o : Opening) (s meters readings : List ℕ) (known : List Meter) (agree : SettingsAgree o s)
+    (metersAgree : MetersAgree o meters known) (readingsAgree : ReadingsAgree o readings known) (sound : SoundMeters (categories o) known)
+    (date : ℕ) (h : date < dates o) where
+  family-is : (measure : Option ℕ → ℕ) (c j : ℕ) → c < categories o → 1 ≤ j → j ≤ periods o →
+      familyTally s meters readings date measure c j ≡ total measure (λ b. sameFamily (category o c) (category o b)) (pictureOf date known) j
+  unfolding familyTally
+  family-is measure c j hc low high =
+      rw (agree .categories-are)
+      (sumBelow-cong (categories o) _ (λ b. cond (sameFamily (category o c) (category o b)) (total measure (eqb b) (pictureOf date known) j) 0)
+      (λ b l. rw (agree .records c hc, agree .records b l, tally-is o s meters readings agree date b j h low high measure known metersAgree readingsAgree))
+      ∙ sym (family-total measure (λ b. sameFamily (category o c) (category o b)) (categories o) j (pictureOf date known) (picture-sound (categories o) date known sound)))
+
+  pub fresh-is : (c j : ℕ) → c < categories o → 1 ≤ j → j ≤ periods o → freshAt s meters readings date c j ≡ freshIn (category o) (pictureOf date known) c j
+  unfolding freshAt freshIn
+  fresh-is c j hc low high =
+      rw (
+        tally-is o s meters readings agree date c j h low high wattHours known metersAgree readingsAgree,
+        tally-is o s meters readings agree date c j h low high present known metersAgree readingsAgree,
+        family-is wattHours c j hc low high,
+        family-is present c j hc low high,
+        agree .records c hc,
+      )
+
+-- ---- columns are the ledger's cells
+
+day-is : (categoryOf : ℕ → Category) (c j : ℕ) (p : Option Picture) → dayOf categoryOf c j p ≡ dayIf (isPicture p) (shapeOf categoryOf c j p)
+day-is categoryOf c j none = refl
+day-is categoryOf c j (some p) = refl
+
+pub column-is : (o : Opening) (pictures : ℕ → Option Picture) (c p d : ℕ) → p < periods o →
+    columnCell (dayType o) (λ x. isPicture (pictures x)) (shapes o pictures) (c * periods o + p) d ≡ cellBy o pictures d c (suc p)
+unfolding cellBy
+column-is o pictures c p d h =
+    ap (λ f. cellOn (dayType o) f d) (fun-ext (λ x. rw (digits-div c h, digits-mod c h) (sym (day-is (category o) c (suc p) (pictures x)))))
+
+pub valid-periods : (o : Opening) → Valid o → (48 ≤ periods o) × (periods o ≤ 96)
+unfolding periodsPerDay
+valid-periods o v = ⊎-elim (λ e. rw e (omega arith, omega arith)) (λ e. rw e (omega arith, omega arith)) (v .duration)
+
+pub shapes-small : (o : Opening) (pictures : ℕ → Option Picture) →
+    ((d : ℕ) (p : Picture) → pictures d ≡ some p → SoundPicture (categories o) p × (length p ≤ 1024)) → (k x : ℕ) → SmallFresh (shapes o pictures k x)
+shapes-small o pictures sound k x = go (pictures x) refl
+  where
+    go : (q : Option Picture) → pictures x ≡ q → SmallFresh (shapeOf (category o) (k / periods o) (suc (k % periods o)) q)
+    go none e = tt
+    go (some p) e = picture-small (categories o) (category o) p (sound x p e .0) (sound x p e .1) (k / periods o) (suc (k % periods o))
+
+-- ---- a run
+
+module _ (l : Ledger) (s meters readings cells : List ℕ) (sound : Sound l) (agree : SettingsAgree (l .opening) s)
+    (metersAgree : MetersAgree (l .opening) meters (l .known)) (readingsAgree : ReadingsAgree (l .opening) readings (l .known))
+    (cellsAgree : CellsAgree (l .opening) cells (l .pictures)) (date : ℕ) (h : date < dates (l .opening)) where
+  pub after-sound : (d : ℕ) (p : Picture) → at date (some (pictureOf date (l .known))) (l .pictures) d ≡ some p → SoundPicture (categories (l .opening)) p × (length p ≤ 1024)
+  unfolding at
+  after-sound d p e =
+      by-cases (eqb d date)
+      (λ q.
+      let same : pictureOf date (l .known) ≡ p = (let z : some (pictureOf date (l .known)) ≡ some p = rw q at e in cc) in
+      rw (← same) (
+        picture-sound (categories (l .opening)) date (l .known) (sound .meters),
+        let a = picture-le date (l .known) in let b = sound .few in let c = sound .valid .meters in omega arith,
+      ))
+      (λ q. sound .pictures-are d p (rw q at e))
+
+  row-is : rowOf s ≡ categories (l .opening) * periods (l .opening)
+  unfolding rowOf periodsOf
+  row-is = rw (agree .categories-are, agree .duration)
+
+  places : 0 < categories (l .opening) * periods (l .opening)
+  places =
+      let p = valid-periods (l .opening) (sound .valid) in
+      let c = sound .valid .categories-are in
+      omega (arith, mul-le-mul-right (periods (l .opening)) (c .0))
+
+  run-alike : (x : ℕ) → x ≢ date → isPicture (l .pictures x) ≡ isPicture (at date (some (pictureOf date (l .known))) (l .pictures) x)
+  unfolding at
+  run-alike x n = rw (ne-eqb x date n)
+
+  shapes-alike : (k x : ℕ) → x ≢ date → shapes (l .opening) (l .pictures) k x ≡ shapes (l .opening) (at date (some (pictureOf date (l .known))) (l .pictures)) k x
+  unfolding at
+  shapes-alike k x n = rw (ne-eqb x date n)
+
+  new-run : isPicture (at date (some (pictureOf date (l .known))) (l .pictures) date) ≡ true
+  unfolding at
+  new-run = rw (eq-eqb date date refl)
+
+  new-is : (k : ℕ) → k < categories (l .opening) * periods (l .opening) →
+      newRow s meters readings cells date k
+      ≡ rowEntry date (shapes (l .opening) (at date (some (pictureOf date (l .known))) (l .pictures)) k date)
+      (overFrom (categories (l .opening) * periods (l .opening)) cells (lastRun s cells (dayType (l .opening) date) date) k)
+  unfolding newRow periodsOf at
+  new-is k m =
+      let p = valid-periods (l .opening) (sound .valid) in
+      rw (row-is, agree .types date h, agree .duration, eq-eqb date date refl)
+      (ap
+      (λ f.
+      rowEntry date f
+      (overFrom (categories (l .opening) * periods (l .opening)) cells (lastRun s cells (dayType (l .opening) date) date) k))
+      (fresh-is (l .opening) s meters readings (l .known) agree metersAgree readingsAgree (sound .meters) date h
+      (k / periods (l .opening))
+      (suc (k % periods (l .opening)))
+      (div-lt-iff-lt-mul (omega arith) .1 m)
+      (omega arith)
+      (mod-lt k (omega arith))))
+
+  ran-is : ranFrom s meters readings cells date
+      ≡ carryOn s (dayType (l .opening) date) (dates (l .opening) - suc date) (λ k. carriedEntry (newRow s meters readings cells date k)) (suc date)
+      (putRow (categories (l .opening) * periods (l .opening)) date (tabulate (categories (l .opening) * periods (l .opening)) (newRow s meters readings cells date)) cells)
+      (differing (categories (l .opening) * periods (l .opening)) (λ k. seen (rowAt (categories (l .opening) * periods (l .opening)) cells date k)) (newRow s meters readings cells date))
+  unfolding ranFrom
+  ran-is = rw (row-is, agree .types date h, agree .dates-are)
+
+  room : dates (l .opening) * (categories (l .opening) * periods (l .opening)) ≤ length cells
+  unfolding cellsLength
+  room = cellsAgree .long
+
+  few-dates : dates (l .opening) ≤ 65536
+  few-dates = let d = sound .valid .dates-are in omega arith
+
+  run-leaves :
+      RunLeaves (categories (l .opening) * periods (l .opening)) (dates (l .opening)) (dayType (l .opening))
+      (λ d. isPicture (l .pictures d)) (λ d. isPicture (at date (some (pictureOf date (l .known))) (l .pictures) d))
+      (shapes (l .opening) (l .pictures)) (shapes (l .opening) (at date (some (pictureOf date (l .known))) (l .pictures)))
+      (length cells) (ranFrom s meters readings cells date)
+  run-leaves =
+      rw ran-is
+      (run-good s (categories (l .opening) * periods (l .opening)) (dates (l .opening)) (dayType (l .opening)) places few-dates row-is (agree .types)
+      (λ d. isPicture (l .pictures d)) (λ d. isPicture (at date (some (pictureOf date (l .known))) (l .pictures) d))
+      (shapes (l .opening) (l .pictures)) (shapes (l .opening) (at date (some (pictureOf date (l .known))) (l .pictures)))
+      (shapes-small (l .opening) (l .pictures) (sound .pictures-are))
+      (shapes-small (l .opening) (at date (some (pictureOf date (l .known))) (l .pictures)) after-sound)
+      date run-alike shapes-alike (length cells) room cells refl (cellsAgree .are) h new-run (newRow s meters readings cells date) new-is)
+
+  -- the cells after it are those of the new pictures
+  pub run-agrees : CellsAgree (l .opening) (ranFrom s meters readings cells date .cells) (at date (some (pictureOf date (l .known))) (l .pictures))
+  run-agrees = record { are = run-leaves .cells-are; long = rw (run-leaves .as-long) (cellsAgree .long) }
+
+  pub run-length : length (ranFrom s meters readings cells date .cells) ≡ length cells
+  run-length = run-leaves .as-long
+
+  -- the number it reports is that of the ledger's cells that differ
+  pub run-moved :
+      ranFrom s meters readings cells date .moved
+      ≡ movedBetween (l .opening) (cellBy (l .opening) (l .pictures)) (cellBy (l .opening) (at date (some (pictureOf date (l .known))) (l .pictures)))
+  unfolding movedBetween
+  run-moved =
+      run-leaves .moved-is
+      ∙ sumBelow-cong (dates (l .opening)) _ _
+      (λ d m.
+      sym (sumBelow-rows (categories (l .opening)) (periods (l .opening)) _)
+      ∙ sumBelow-cong (categories (l .opening)) _ _
+      (λ c v.
+      sumBelow-cong (periods (l .opening)) _ _
+      (λ p w.
+      rw (column-is (l .opening) (l .pictures) c p d w, column-is (l .opening) (at date (some (pictureOf date (l .known))) (l .pictures)) c p d w))))

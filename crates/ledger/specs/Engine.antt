@@ -1,0 +1,135 @@
+-- Lists of calls: the answers of the call definitions, threaded through the parts, and those of the plain ledger.
+use Prim.Native.Nat.{ℕ, _<_, min}
+use mathlib.Core.Path.{_≡_}
+use mathlib.Core.List.{List, [], _∷_, _++_}
+use lib.ListN.{length, getD, take, drop}
+use Rattle.ledger.specs.Checks.{RegistrationCall, ReceptionCall, Verdict}
+use Rattle.ledger.specs.Ledger.{Opening, Ledger, start, Call, register, receive, run, readTotals, readCell, Answer, accepted, moved, totalsAre, cellIs, answer, left, Lengths, ledgerAnswer, ledgerAfter}
+use Rattle.ledger.specs.Calls.{OpeningCall, openingVerdict, openedSettings, openedMeters, openedReadings, openedCells, registrationVerdict, registeredMeters, receptionVerdict, receivedReadings, runVerdict, ranFrom, totalsVerdict, totalsFor, cellVerdict, cellFor}
+
+-- the parts of a store
+pub record Parts : Type 0 where
+  pub settings : List ℕ
+  pub meters : List ℕ
+  pub readings : List ℕ
+  pub cells : List ℕ
+
+-- what a call answers, by the definitions that the code's contracts cite
+unfoldable pub callAnswer : Parts → Call → Answer
+callAnswer p (register a) = answer (registrationVerdict (p .settings) (p .meters) (p .readings) a) accepted
+callAnswer p (receive a) = answer (receptionVerdict (p .settings) (p .meters) (p .readings) a) accepted
+callAnswer p (run d) =
+    answer (runVerdict (p .settings) (p .meters) (p .readings) (p .cells) d)
+    (moved (ranFrom (p .settings) (p .meters) (p .readings) (p .cells) d .moved))
+callAnswer p (readTotals d c) = answer (totalsVerdict (p .settings) (p .cells) d c) (totalsAre (totalsFor (p .settings) (p .cells) d c))
+callAnswer p (readCell d c j) = answer (cellVerdict (p .settings) (p .cells) d c j) (cellIs (cellFor (p .settings) (p .cells) d c j))
+
+-- and what it leaves: each call but the opening writes one part at most
+unfoldable pub metersAfter : Parts → Call → List ℕ
+metersAfter p (register a) =
+    left (registrationVerdict (p .settings) (p .meters) (p .readings) a) (p .meters) (registeredMeters (p .settings) (p .meters) (p .readings) a)
+metersAfter p (receive a) = p .meters
+metersAfter p (run d) = p .meters
+metersAfter p (readTotals d c) = p .meters
+metersAfter p (readCell d c j) = p .meters
+
+unfoldable pub readingsAfter : Parts → Call → List ℕ
+readingsAfter p (register a) = p .readings
+readingsAfter p (receive a) =
+    left (receptionVerdict (p .settings) (p .meters) (p .readings) a) (p .readings) (receivedReadings (p .settings) (p .meters) (p .readings) a)
+readingsAfter p (run d) = p .readings
+readingsAfter p (readTotals d c) = p .readings
+readingsAfter p (readCell d c j) = p .readings
+
+unfoldable pub cellsAfter : Parts → Call → List ℕ
+cellsAfter p (register a) = p .cells
+cellsAfter p (receive a) = p .cells
+cellsAfter p (run d) =
+    left (runVerdict (p .settings) (p .meters) (p .readings) (p .cells) d) (p .cells)
+    (ranFrom (p .settings) (p .meters) (p .readings) (p .cells) d .cells)
+cellsAfter p (readTotals d c) = p .cells
+cellsAfter p (readCell d c j) = p .cells
+
+-- a call, and how much of each part it is lent
+pub record Item : Type 0 where
+  pub lent : Lengths
+  pub call : Call
+
+-- the parts cut at their ends to the lengths lent
+unfoldable pub cut : Lengths → Parts → Parts
+cut n p =
+    record {
+      settings = take (n .settings) (p .settings);
+      meters = take (n .meters) (p .meters);
+      readings = take (n .readings) (p .readings);
+      cells = take (n .cells) (p .cells);
+    }
+
+-- the parts after a call that was lent them cut: what was cut off is put back unaltered
+unfoldable pub partsAfter : Parts → Item → Parts
+partsAfter p i =
+    record {
+      settings = p .settings;
+      meters = metersAfter (cut (i .lent) p) (i .call) ++ drop (i .lent .meters) (p .meters);
+      readings = readingsAfter (cut (i .lent) p) (i .call) ++ drop (i .lent .readings) (p .readings);
+      cells = cellsAfter (cut (i .lent) p) (i .call) ++ drop (i .lent .cells) (p .cells);
+    }
+
+unfoldable pub storeAnswers : Parts → List Item → List Answer
+storeAnswers p [] = []
+storeAnswers p (i ∷ is) = callAnswer (cut (i .lent) p) (i .call) ∷ storeAnswers (partsAfter p i) is
+
+-- the lengths that parts of the lengths `whole` have when they are cut
+unfoldable pub cutLengths : Lengths → Lengths → Lengths
+cutLengths n whole =
+    record {
+      settings = min (n .settings) (whole .settings);
+      meters = min (n .meters) (whole .meters);
+      readings = min (n .readings) (whole .readings);
+      cells = min (n .cells) (whole .cells);
+    }
+
+unfoldable pub ledgerAnswers : Ledger → Lengths → List Item → List Answer
+ledgerAnswers l whole [] = []
+ledgerAnswers l whole (i ∷ is) =
+    ledgerAnswer l (cutLengths (i .lent) whole) (i .call) ∷ ledgerAnswers (ledgerAfter l (cutLengths (i .lent) whole) (i .call)) whole is
+
+abbrev pub lengthsOf : Parts → Lengths
+lengthsOf p =
+    record { settings = length (p .settings); meters = length (p .meters); readings = length (p .readings); cells = length (p .cells) }
+
+-- the parts after an accepted opening
+unfoldable pub openedParts : Parts → OpeningCall → Parts
+openedParts p a =
+    record {
+      settings = openedSettings a (p .settings);
+      meters = openedMeters a (p .meters);
+      readings = openedReadings a (p .readings);
+      cells = openedCells a (p .cells);
+    }
+
+abbrev pub opening : OpeningCall → Opening
+opening a = record { duration = a .duration; meters = a .meters; categoryBytes = a .categoryBytes; dayTypes = a .dayTypes }
+
+-- a body is made of bytes
+abbrev pub AreBytes : List ℕ → Type 0
+AreBytes xs = (i : ℕ) → getD xs i 0 < 256
+
+abbrev pub BodyOfBytes : Call → Type 0
+BodyOfBytes (register a) = Unit {0}
+BodyOfBytes (receive a) = AreBytes (a .body)
+BodyOfBytes (run d) = Unit {0}
+BodyOfBytes (readTotals d c) = Unit {0}
+BodyOfBytes (readCell d c j) = Unit {0}
+
+abbrev pub BodiesOfBytes : List Item → Type 0
+BodiesOfBytes [] = Unit {0}
+BodiesOfBytes (i ∷ is) = BodyOfBytes (i .call) × BodiesOfBytes is
+
+-- Demand 3: for every opening that is accepted and every list of calls with the lengths lent, the answers are those of the plain ledger
+abbrev pub Agreement : Type 0
+Agreement =
+    (p : Parts) (a : OpeningCall) (items : List Item) →
+    openingVerdict (p .settings) (p .meters) (p .readings) (p .cells) a .number ≡ 0 →
+    BodiesOfBytes items →
+    storeAnswers (openedParts p a) items ≡ ledgerAnswers (start (opening a)) (lengthsOf p) items

@@ -1,0 +1,251 @@
+-- The plain ledger. It is given the opening, then each call's arguments and the lengths of the parts lent, and works everything out afresh.
+use Prim.Native.Nat.{ℕ, zero, suc, _+_, _*_, _/_}
+use mathlib.Core.Bool.{Bool, true, false, not, _&&_, _||_, cond}
+use mathlib.Core.List.{List, [], _∷_, _++_}
+use mathlib.Core.Option.{Option, none, some}
+use lib.Dec.{leb, ltb, eqb}
+use lib.ListN.{length, getD}
+use Rattle.metering.specs.Sum.{sumBelow}
+use Rattle.metering.specs.Calendar.{periodsPerDay}
+use Rattle.ledger.specs.Method.{Category, categoryAt, ReadingSet, Entry, Picture, freshIn, Cell, Day, notRun, ran, cellOn, movedCell, Totals, totalsOn}
+use Rattle.ledger.specs.Checks.{Registration, RegistrationCall, ReceptionCall, Verdict, verdict, registered, startOf, inForce, registrationCheck, receptionCheck, readingIn, anyBelow, runCheck, readCheck, totalsInRange, cellInRange}
+use Rattle.ledger.specs.Sizes.{settingsLength, metersLength, readingsLength, cellsLength}
+
+-- ---- what it keeps
+
+-- an accepted opening: the period duration, M, the category bytes and the day types
+pub record Opening : Type 0 where
+  pub duration : ℕ
+  pub meters : ℕ
+  pub categoryBytes : List ℕ
+  pub dayTypes : List ℕ
+
+abbrev pub categories : Opening → ℕ
+categories o = length (o .categoryBytes) / 8
+
+abbrev pub dates : Opening → ℕ
+dates o = length (o .dayTypes)
+
+abbrev pub periods : Opening → ℕ
+periods o = periodsPerDay (o .duration)
+
+abbrev pub category : Opening → ℕ → Category
+category o c = categoryAt (o .categoryBytes) c
+
+abbrev pub dayType : Opening → ℕ → ℕ
+dayType o d = getD (o .dayTypes) d 0
+
+-- a known meter: its registrations in the order in which they came, and the set held for each date, if any
+pub record Meter : Type 0 where
+  pub mpan : ℕ
+  pub registrations : List Registration
+  pub held : ℕ → Option ReadingSet
+
+-- for each date the picture, or "not run"
+pub record Ledger : Type 0 where
+  pub opening : Opening
+  pub known : List Meter
+  pub pictures : ℕ → Option Picture
+
+-- at first no meter is known, no set held and no date run
+unfoldable pub start : Opening → Ledger
+start o = record { opening = o; known = []; pictures = λ d. none }
+
+-- ---- calls, answers, lengths lent
+
+pub data Call : Type 0 where
+  register : RegistrationCall → Call
+  receive : ReceptionCall → Call
+  run : ℕ → Call
+  readTotals : ℕ → ℕ → Call
+  readCell : ℕ → ℕ → ℕ → Call
+
+-- a refusal has its number and place
+pub data Answer : Type 0 where
+  refused : ℕ → ℕ → Answer
+  accepted : Answer
+  moved : ℕ → Answer
+  totalsAre : Totals → Answer
+  cellIs : Cell → Answer
+
+-- the first failed check's answer, or that of the accepted call
+unfoldable pub answer : Verdict → Answer → Answer
+answer v given = cond (eqb (v .number) 0) given (refused (v .number) (v .place))
+
+-- the same for what is left behind: a refused call changes nothing
+unfoldable pub left {ℓ} : {A : Type ℓ} → Verdict → A → A → A
+left v before after = cond (eqb (v .number) 0) after before
+
+-- the lengths of the parts as they are lent to a call
+pub record Lengths : Type 0 where
+  pub settings : ℕ
+  pub meters : ℕ
+  pub readings : ℕ
+  pub cells : ℕ
+
+unfoldable pub settingsShort : Opening → Lengths → Bool
+settingsShort o n = ltb (n .settings) (settingsLength (categories o) (dates o))
+
+-- registration and reception are lent settings, meters and readings
+unfoldable pub metersShort : Opening → Lengths → Bool
+metersShort o n =
+    settingsShort o n || ltb (n .meters) (metersLength (o .meters)) || ltb (n .readings) (readingsLength (o .meters) (dates o) (periods o))
+
+-- the reads are lent settings and cells
+unfoldable pub cellsShort : Opening → Lengths → Bool
+cellsShort o n = settingsShort o n || ltb (n .cells) (cellsLength (categories o) (dates o) (periods o))
+
+-- a run is lent all four
+unfoldable pub anyShort : Opening → Lengths → Bool
+anyShort o n = metersShort o n || ltb (n .cells) (cellsLength (categories o) (dates o) (periods o))
+
+-- ---- registration
+
+unfoldable pub meterWith : ℕ → List Meter → Option Meter
+meterWith mpan [] = none
+meterWith mpan (m ∷ ms) = let rest = meterWith mpan ms in cond (eqb (m .mpan) mpan) (some m) rest
+
+unfoldable pub changed : ℕ → (Meter → Meter) → List Meter → List Meter
+changed mpan f [] = []
+changed mpan f (m ∷ ms) = let rest = changed mpan f ms in cond (eqb (m .mpan) mpan) (f m ∷ ms) (m ∷ rest)
+
+abbrev pub registrationsOf : Option Meter → Option (List Registration)
+registrationsOf none = none
+registrationsOf (some m) = some (m .registrations)
+
+abbrev pub isHeld : Option ReadingSet → Bool
+isHeld none = false
+isHeld (some s) = true
+
+-- whether a set is held on or after a start
+unfoldable pub heldFrom : ℕ → ℕ → Option Meter → Bool
+heldFrom T from none = false
+heldFrom T from (some m) = anyBelow T (λ d. leb from d && isHeld (m .held d))
+
+unfoldable pub ledgerRegistrationCheck : Ledger → Lengths → RegistrationCall → Verdict
+ledgerRegistrationCheck l n a =
+    verdict
+    (registrationCheck (metersShort (l .opening) n) (dates (l .opening)) (categories (l .opening))
+    (leb (l .opening .meters) (length (l .known)))
+    (heldFrom (dates (l .opening)) (startOf (a .date) (a .minute)) (meterWith (a .mpan) (l .known)))
+    (registrationsOf (meterWith (a .mpan) (l .known)))
+    a)
+
+abbrev pub withRegistration : Registration → Meter → Meter
+withRegistration r m = record { mpan = m .mpan; registrations = m .registrations ++ (r ∷ []); held = m .held }
+
+-- a new MPAN becomes a known meter, a known one has one registration more
+unfoldable pub registerIn : RegistrationCall → Option Meter → List Meter → List Meter
+registerIn a none ms = ms ++ (record { mpan = a .mpan; registrations = registered a ∷ []; held = λ d. none } ∷ [])
+registerIn a (some m) ms = changed (a .mpan) (withRegistration (registered a)) ms
+
+unfoldable pub afterRegistration : Ledger → RegistrationCall → Ledger
+afterRegistration l a =
+    record { opening = l .opening; known = registerIn a (meterWith (a .mpan) (l .known)) (l .known); pictures = l .pictures }
+
+-- ---- reception
+
+abbrev pub currentOf : ℕ → Option Meter → Option Registration
+currentOf date none = none
+currentOf date (some m) = inForce date (m .registrations)
+
+unfoldable pub ledgerReceptionCheck : Ledger → Lengths → ReceptionCall → Verdict
+ledgerReceptionCheck l n a =
+    receptionCheck (metersShort (l .opening) n) (dates (l .opening)) (l .opening .duration) (categories (l .opening)) (category (l .opening))
+    (currentOf (a .date) (meterWith (a .mpan) (l .known)))
+    a
+
+-- the set that a body brings
+unfoldable pub setOf : Opening → List ℕ → ReadingSet
+setOf o body j = readingIn (o .duration) body (length body / 7) j
+
+-- f, but v at d
+unfoldable pub at {ℓ} : {A : Type ℓ} → ℕ → A → (ℕ → A) → ℕ → A
+at d v f x = cond (eqb x d) v (f x)
+
+-- the new set replaces the earlier one entirely
+abbrev pub withSet : ℕ → ReadingSet → Meter → Meter
+withSet date s m = record { mpan = m .mpan; registrations = m .registrations; held = at date (some s) (m .held) }
+
+unfoldable pub afterReception : Ledger → ReceptionCall → Ledger
+afterReception l a =
+    record {
+      opening = l .opening;
+      known = changed (a .mpan) (withSet (a .date) (setOf (l .opening) (a .body))) (l .known);
+      pictures = l .pictures;
+    }
+
+-- ---- cells, made afresh from the pictures
+
+abbrev pub dayOf : (ℕ → Category) → ℕ → ℕ → Option Picture → Day
+dayOf categoryOf c j none = notRun
+dayOf categoryOf c j (some p) = ran (freshIn categoryOf p c j)
+
+-- the cells that pictures give
+unfoldable pub cellBy : Opening → (ℕ → Option Picture) → ℕ → ℕ → ℕ → Cell
+cellBy o pictures d c j = cellOn (dayType o) (λ x. dayOf (category o) c j (pictures x)) d
+
+unfoldable pub cellAt : Ledger → ℕ → ℕ → ℕ → Cell
+cellAt l d c j = cellBy (l .opening) (l .pictures) d c j
+
+abbrev pub isPicture : Option Picture → Bool
+isPicture none = false
+isPicture (some p) = true
+
+unfoldable pub isRun : Ledger → ℕ → Bool
+isRun l d = isPicture (l .pictures d)
+
+-- ---- run
+
+unfoldable pub ledgerRunCheck : Ledger → Lengths → ℕ → Verdict
+ledgerRunCheck l n date = verdict (runCheck (anyShort (l .opening) n) (dates (l .opening)) date)
+
+abbrev pub entriesOf : Option ReadingSet → Option Registration → Picture
+entriesOf none r = []
+entriesOf (some s) none = []
+entriesOf (some s) (some r) = record { category = r .category; readings = s } ∷ []
+
+-- the sets held on a date, with the categories of their meters
+unfoldable pub pictureOf : ℕ → List Meter → Picture
+pictureOf date [] = []
+pictureOf date (m ∷ ms) = entriesOf (m .held date) (inForce date (m .registrations)) ++ pictureOf date ms
+
+unfoldable pub afterRun : Ledger → ℕ → Ledger
+afterRun l date =
+    record { opening = l .opening; known = l .known; pictures = at date (some (pictureOf date (l .known))) (l .pictures) }
+
+-- the paper's "moved": how many cells of all dates, categories and periods differ
+unfoldable pub movedBetween : Opening → (ℕ → ℕ → ℕ → Cell) → (ℕ → ℕ → ℕ → Cell) → ℕ
+movedBetween o before after =
+    sumBelow (dates o) (λ d. sumBelow (categories o) (λ c. sumBelow (periods o) (λ k. movedCell (before d c (suc k)) (after d c (suc k)))))
+
+-- ---- reads
+
+unfoldable pub ledgerTotalsCheck : Ledger → Lengths → ℕ → ℕ → Verdict
+ledgerTotalsCheck l n d c =
+    verdict (readCheck (cellsShort (l .opening) n) (dates (l .opening)) d (totalsInRange (categories (l .opening)) c) (isRun l d))
+
+unfoldable pub ledgerCellCheck : Ledger → Lengths → ℕ → ℕ → ℕ → Verdict
+ledgerCellCheck l n d c j =
+    verdict
+    (readCheck (cellsShort (l .opening) n) (dates (l .opening)) d (cellInRange (categories (l .opening)) (periods (l .opening)) c j) (isRun l d))
+
+unfoldable pub totalsAt : Ledger → ℕ → ℕ → Totals
+totalsAt l d c =
+    totalsOn (l .opening .duration) (periods (l .opening)) (category (l .opening) c .window) (isRun l) (λ x j. cellAt l x c j) d
+
+-- ---- a call
+
+unfoldable pub ledgerAnswer : Ledger → Lengths → Call → Answer
+ledgerAnswer l n (register a) = answer (ledgerRegistrationCheck l n a) accepted
+ledgerAnswer l n (receive a) = answer (ledgerReceptionCheck l n a) accepted
+ledgerAnswer l n (run d) = answer (ledgerRunCheck l n d) (moved (movedBetween (l .opening) (cellAt l) (cellAt (afterRun l d))))
+ledgerAnswer l n (readTotals d c) = answer (ledgerTotalsCheck l n d c) (totalsAre (totalsAt l d c))
+ledgerAnswer l n (readCell d c j) = answer (ledgerCellCheck l n d c j) (cellIs (cellAt l d c j))
+
+unfoldable pub ledgerAfter : Ledger → Lengths → Call → Ledger
+ledgerAfter l n (register a) = left (ledgerRegistrationCheck l n a) l (afterRegistration l a)
+ledgerAfter l n (receive a) = left (ledgerReceptionCheck l n a) l (afterReception l a)
+ledgerAfter l n (run d) = left (ledgerRunCheck l n d) l (afterRun l d)
+ledgerAfter l n (readTotals d c) = l
+ledgerAfter l n (readCell d c j) = l

@@ -1,0 +1,107 @@
+-- The scope paper's marked list as one computed check, and its worked example as a computed run of the ledger.
+use Prim.Native.Nat.{ℕ, zero, suc, _+_, _*_}
+use mathlib.Core.Path.{_≡_, refl}
+use mathlib.Core.Bool.{Bool, true, false, not, _&&_, cond, Bool·beq}
+use mathlib.Core.List.{List, [], _∷_, _++_}
+use mathlib.Core.Option.{Option, none, some}
+use lib.Dec.{leb, ltb, eqb}
+use lib.ListN.{length}
+use Rattle.metering.specs.Sum.{sumBelow}
+use Rattle.metering.specs.Mpan.{mpanValid, checkDigit, weightedSum, product, digit, weights}
+use Rattle.metering.specs.Average.{average, annual}
+use Rattle.metering.specs.Range.{between}
+use Rattle.metering.specs.Calendar.{periodsPerDay, periodEnding, liesWithin, windowStart, windowEnd}
+use Rattle.ledger.specs.Method.{Category, categoryAt, isSmart, sameFamily, Entry, Picture, total, Fresh, absent, own, pooled, freshOf, freshIn, Cell, Flag, A, D, E, N, flagNumber, blank, carried, cellFrom, Day, ran, pass, latest, cellOf, cellOn, sameCell, movedCell, Totals, overRunDates, totOn, offOn, peakOn, totalsOn}
+use Rattle.ledger.specs.Checks.{verdict, firstFailed, anyBelow, recordNumber, endMinute, quality, wattHoursAt, startOf, later, inForceAfter, inForce, notAfterLast, registrationInRange, meterNumber, registrationCheck, bodyCheck, inForceCheck, receptionCheck, isReading, readingIn, runCheck, readCheck, totalsInRange, cellInRange}
+use Rattle.ledger.specs.Sizes.{settingsLength, metersLength, readingsLength, cellsLength}
+use Rattle.ledger.specs.Ledger.{Opening, Ledger, start, Call, register, receive, run, readTotals, readCell, Answer, refused, accepted, moved, totalsAre, cellIs, answer, left, Lengths, settingsShort, metersShort, cellsShort, anyShort, meterWith, changed, heldFrom, ledgerRegistrationCheck, registerIn, afterRegistration, ledgerReceptionCheck, setOf, at, afterReception, cellBy, cellAt, isRun, ledgerRunCheck, pictureOf, afterRun, movedBetween, ledgerTotalsCheck, ledgerCellCheck, totalsAt, ledgerAnswer, ledgerAfter}
+
+-- the test holds of the n periods from 1 on
+unfoldable pub everyPeriod : ℕ → (ℕ → Bool) → Bool
+everyPeriod zero f = true
+everyPeriod (suc n) f = everyPeriod n f && f (suc n)
+
+-- window w at a duration is the periods from low to high
+unfoldable pub windowIs : ℕ → ℕ → ℕ → ℕ → Bool
+windowIs d w low high = everyPeriod (periodsPerDay d) (λ j. Bool·beq (liesWithin d (windowStart w) (windowEnd w) j) (between low high j))
+
+-- the Smart import category of a GSP group, with a de-minimis count
+abbrev pub smart : ℕ → ℕ → Category
+smart g m = record { segment = 1; group = g; domestic = 1; quantity = 1; connection = 1; window = 0; deMinimis = m }
+
+-- groups A and B
+abbrev pub twoGroups : ℕ → ℕ → Category
+twoGroups m c = smart (suc c) m
+
+abbrev pub reads : ℕ → ℕ → Entry
+reads c w = record { category = c; readings = λ j. some w }
+
+-- the cell of date 0, run with a picture
+unfoldable pub firstCell : (ℕ → Category) → Picture → Cell
+firstCell categories picture = cellOn (λ d. 1) (λ d. ran (freshIn categories picture 0 1)) 0
+
+-- end minute 0, quality 1, 5 Wh
+abbrev pub endsAtZero : List ℕ
+endsAtZero = 0 ∷ 0 ∷ 1 ∷ 0 ∷ 0 ∷ 0 ∷ 5 ∷ []
+
+unfoldable pub markedList : Bool
+markedList =
+    mpanValid 1000000000003 && not (mpanValid 1000000000004) && mpanValid 1010000000000 && not (mpanValid 0)
+    && eqb (average 5 2) 3 && eqb (average 4 3) 1
+    && eqb (recordNumber 30 1 10 endsAtZero 0) 1005 && eqb (periodEnding 30 1440) 48
+    && windowIs 30 2 2 15 && windowIs 15 2 3 30
+    && sameCell (firstCell (twoGroups 0) []) blank
+    && sameCell (firstCell (twoGroups 3) (reads 0 100 ∷ reads 1 200 ∷ reads 1 600 ∷ [])) (record { flag = D; value = 300; count = 3; origin = 0 })
+    && eqb (annual 1000 3) 121667
+
+pub marked-list : markedList ≡ true
+unfolding markedList mpanValid checkDigit weightedSum product digit weights sumBelow average annual recordNumber periodEnding windowIs everyPeriod periodsPerDay liesWithin windowStart windowEnd between sameCell firstCell blank cellOn cellOf cellFrom latest freshIn freshOf total isSmart sameFamily anyBelow endMinute quality wattHoursAt carried
+marked-list = refl
+
+-- ---- the worked example
+
+abbrev pub exampleMpan : ℕ
+exampleMpan = 1000000000003
+
+-- two dates of day type 1, one Smart category with window 1 and de-minimis 1
+abbrev pub exampleOpening : Opening
+exampleOpening = record { duration = 30; meters = 1; categoryBytes = 1 ∷ 1 ∷ 1 ∷ 1 ∷ 1 ∷ 1 ∷ 0 ∷ 1 ∷ []; dayTypes = 1 ∷ 1 ∷ [] }
+
+-- 500 Wh in period 1, 250 Wh in period 16
+abbrev pub exampleCalls : List Call
+exampleCalls =
+    register (record { mpan = exampleMpan; date = 0; minute = 0; category = 0; sender = 7; status = 1; limit = 10000 })
+    ∷ receive
+    (record {
+      sender = 7;
+      mpan = exampleMpan;
+      date = 0;
+      duration = 30;
+      quantity = 1;
+      body = 0 ∷ 30 ∷ 1 ∷ 0 ∷ 0 ∷ 1 ∷ 244 ∷ 1 ∷ 224 ∷ 1 ∷ 0 ∷ 0 ∷ 0 ∷ 250 ∷ [];
+    })
+    ∷ run 0
+    ∷ run 1
+    ∷ readTotals 1 0
+    ∷ readCell 0 1 3
+    ∷ []
+
+abbrev pub exampleAnswers : List Answer
+exampleAnswers =
+    accepted
+    ∷ accepted
+    ∷ moved 2
+    ∷ moved 2
+    ∷ totalsAre
+    (record { tot = 750; off = 500; peak = 250; tot7 = 1500; off7 = 1000; peak7 = 500; days7 = 2; ann = 273750; days = 2; fresh = 0; blanks = 46 })
+    ∷ refused 15 0
+    ∷ []
+
+-- the ledger's answers to a list of calls, each lent parts of the lengths n
+unfoldable pub ledgerRun : Ledger → Lengths → List Call → List Answer
+ledgerRun l n [] = []
+ledgerRun l n (a ∷ rest) = ledgerAnswer l n a ∷ ledgerRun (ledgerAfter l n a) n rest
+
+pub worked-example : ledgerRun (start exampleOpening) (record { settings = 18; meters = 41; readings = 98; cells = 96 }) exampleCalls ≡ exampleAnswers
+unfolding ledgerRun start ledgerAnswer ledgerAfter answer left settingsShort metersShort cellsShort anyShort meterWith changed heldFrom ledgerRegistrationCheck registerIn afterRegistration ledgerReceptionCheck setOf at afterReception cellBy cellAt isRun ledgerRunCheck pictureOf afterRun movedBetween ledgerTotalsCheck ledgerCellCheck totalsAt settingsLength metersLength readingsLength cellsLength firstFailed startOf later inForceAfter inForce notAfterLast registrationInRange meterNumber registrationCheck bodyCheck inForceCheck receptionCheck isReading readingIn runCheck readCheck totalsInRange cellInRange movedCell overRunDates totOn offOn peakOn totalsOn categoryAt mpanValid checkDigit weightedSum product digit weights sumBelow average annual recordNumber periodEnding periodsPerDay liesWithin windowStart windowEnd between sameCell blank cellOn cellOf cellFrom latest pass freshIn freshOf total isSmart sameFamily anyBelow endMinute quality wattHoursAt carried
+worked-example = refl

@@ -1,0 +1,226 @@
+-- METH005 5.3 (source document 000), the Load Shaping Service, as the scope paper condenses it. "House" marks a rule that the paper adds.
+-- Dates count from 0, categories from 0, periods from 1.
+use Prim.Native.Nat.{ℕ, zero, suc, _+_, _-_, _*_}
+use mathlib.Core.Bool.{Bool, true, false, not, _&&_, _||_, cond}
+use mathlib.Core.List.{List, [], _∷_}
+use mathlib.Core.Option.{Option, none, some}
+use lib.Dec.{leb, ltb, eqb}
+use lib.ListN.{getD}
+use Rattle.metering.specs.Sum.{sumBelow}
+use Rattle.metering.specs.Average.{average, annual}
+use Rattle.metering.specs.Calendar.{liesWithin, windowStart, windowEnd}
+
+-- ---- categories (000, 3.1; 003 for Advanced)
+
+-- a load shape category, its record's eight bytes taken apart; the first five fields are the key
+pub record Category : Type 0 where
+  pub segment : ℕ
+  pub group : ℕ
+  pub domestic : ℕ
+  pub quantity : ℕ
+  pub connection : ℕ
+  pub window : ℕ
+  pub deMinimis : ℕ
+
+-- the record that stands at place c of category bytes, eight to a record
+unfoldable pub categoryAt : List ℕ → ℕ → Category
+categoryAt bytes c =
+    record {
+      segment = getD bytes (8 * c) 0;
+      group = getD bytes (8 * c + 1) 0;
+      domestic = getD bytes (8 * c + 2) 0;
+      quantity = getD bytes (8 * c + 3) 0;
+      connection = getD bytes (8 * c + 4) 0;
+      window = getD bytes (8 * c + 5) 0;
+      deMinimis = 256 * getD bytes (8 * c + 6) 0 + getD bytes (8 * c + 7) 0;
+    }
+
+unfoldable pub isSmart : Category → Bool
+isSmart a = eqb (a .segment) 1
+
+-- the paper's "family": Smart categories alike in domestic, quantity and connection; regions and all else may differ
+unfoldable pub sameFamily : Category → Category → Bool
+sameFamily a b = isSmart a && isSmart b && eqb (a .domestic) (b .domestic) && eqb (a .quantity) (b .quantity) && eqb (a .connection) (b .connection)
+
+-- ---- readings of a date
+
+-- a set: the reading of each period in Wh, where it has one
+abbrev pub ReadingSet : Type 0
+ReadingSet = ℕ → Option ℕ
+
+-- a set held on a date, with the category of its meter
+pub record Entry : Type 0 where
+  pub category : ℕ
+  pub readings : ReadingSet
+
+-- the paper's "picture": the sets held on a date when it was run
+abbrev pub Picture : Type 0
+Picture = List Entry
+
+abbrev pub wattHours : Option ℕ → ℕ
+wattHours none = 0
+wattHours (some w) = w
+
+abbrev pub present : Option ℕ → ℕ
+present none = 0
+present (some w) = 1
+
+-- over the entries whose category is chosen: the sum of what `measure` finds in period j
+unfoldable pub total : (Option ℕ → ℕ) → (ℕ → Bool) → Picture → ℕ → ℕ
+total measure chosen [] j = 0
+total measure chosen (e ∷ es) j = cond (chosen (e .category)) (measure (e .readings j)) 0 + total measure chosen es j
+
+-- ---- one date's own shape (000, 5.1 and 5.2)
+
+-- what a date's own readings give for a category and period: the average of its readings, the average over the family, or nothing
+pub data Fresh : Type 0 where
+  absent : Fresh
+  own : ℕ → ℕ → Fresh
+  pooled : ℕ → ℕ → Fresh
+
+-- s and n over the category, S and K over the family: own where n ≥ 1 and n reaches de-minimis, else pooled where the category is
+-- Smart, K ≥ 1 and K reaches the same de-minimis. Averages are whole Wh, halves up (house).
+unfoldable pub freshOf : Category → ℕ → ℕ → ℕ → ℕ → Fresh
+freshOf a s n S K =
+    cond (leb 1 n && leb (a .deMinimis) n)
+    (own (average s n) n)
+    (cond (isSmart a && leb 1 K && leb (a .deMinimis) K) (pooled (average S K) K) absent)
+
+-- the same from a picture; S is over single readings, never over regional averages
+unfoldable pub freshIn : (ℕ → Category) → Picture → ℕ → ℕ → Fresh
+freshIn category picture c j =
+    freshOf (category c)
+    (total wattHours (eqb c) picture j)
+    (total present (eqb c) picture j)
+    (total wattHours (λ b. sameFamily (category c) (category b)) picture j)
+    (total present (λ b. sameFamily (category c) (category b)) picture j)
+
+-- ---- cells (000, 5.3)
+
+pub data Flag : Type 0 where
+  A D E N : Flag
+
+pub record Cell : Type 0 where
+  pub flag : Flag
+  pub value : ℕ
+  pub count : ℕ
+  pub origin : ℕ
+
+-- no shape: flag N, value 0, count 0, origin 65535 (house; METH005 has flag B and value 1)
+unfoldable pub blank : Cell
+blank = record { flag = N; value = 0; count = 0; origin = 65535 }
+
+-- what a later date without a shape of its own takes over: value, count and origin under flag E, and nothing from nothing
+unfoldable pub carried : Cell → Cell
+unfolding blank
+carried a = elim (a .flag) [
+  | A ↦ record { flag = E; value = a .value; count = a .count; origin = a .origin }
+  | D ↦ record { flag = E; value = a .value; count = a .count; origin = a .origin }
+  | E ↦ record { flag = E; value = a .value; count = a .count; origin = a .origin }
+  | N ↦ blank
+]
+
+-- the cell of a run date d, from its own shape and the cell of its predecessor
+unfoldable pub cellFrom : ℕ → Fresh → Cell → Cell
+cellFrom d absent before = carried before
+cellFrom d (own v n) before = record { flag = A; value = v; count = n; origin = d }
+cellFrom d (pooled v k) before = record { flag = D; value = v; count = k; origin = d }
+
+-- a date as one category and period sees it: not run, or run with its own shape
+pub data Day : Type 0 where
+  notRun : Day
+  ran : Fresh → Day
+
+-- going past date d: a run date of the day type looked for puts its cell in place of the one before
+unfoldable pub pass : ℕ → Day → Bool → Cell → Cell
+pass d notRun ofType before = before
+pass d (ran f) ofType before = cond ofType (cellFrom d f before) before
+
+-- the cell of the nearest run date before d with day type t, found by going through the dates upward; blank where there is none
+unfoldable pub latest : (ℕ → ℕ) → (ℕ → Day) → ℕ → ℕ → Cell
+latest dayType day t zero = blank
+latest dayType day t (suc d) = pass d (day d) (eqb (dayType d) t) (latest dayType day t d)
+
+-- the cell of date d, whose predecessor's cell is given; a date not run has the blank one
+unfoldable pub cellOf : ℕ → Day → Cell → Cell
+cellOf d notRun before = blank
+cellOf d (ran f) before = cellFrom d f before
+
+unfoldable pub cellOn : (ℕ → ℕ) → (ℕ → Day) → ℕ → Cell
+cellOn dayType day d = cellOf d (day d) (latest dayType day (dayType d) d)
+
+abbrev pub flagNumber : Flag → ℕ
+flagNumber A = 1
+flagNumber D = 2
+flagNumber E = 3
+flagNumber N = 4
+
+-- whether value, flag, count and origin are all alike
+unfoldable pub sameCell : Cell → Cell → Bool
+sameCell a b = eqb (flagNumber (a .flag)) (flagNumber (b .flag)) && eqb (a .value) (b .value) && eqb (a .count) (b .count) && eqb (a .origin) (b .origin)
+
+-- the paper's "moved" for one cell: 1 where it differs, else 0
+unfoldable pub movedCell : Cell → Cell → ℕ
+movedCell a b = cond (sameCell a b) 0 1
+
+-- ---- totals of a run date and category
+
+-- all that a totals read answers
+pub record Totals : Type 0 where
+  pub tot : ℕ
+  pub off : ℕ
+  pub peak : ℕ
+  pub tot7 : ℕ
+  pub off7 : ℕ
+  pub peak7 : ℕ
+  pub days7 : ℕ
+  pub ann : ℕ
+  pub days : ℕ
+  pub fresh : ℕ
+  pub blanks : ℕ
+
+abbrev pub isFresh : Flag → ℕ
+isFresh A = 1
+isFresh D = 1
+isFresh E = 0
+isFresh N = 0
+
+abbrev pub isBlank : Flag → ℕ
+isBlank A = 0
+isBlank D = 0
+isBlank E = 0
+isBlank N = 1
+
+-- over the run dates among d and the n − 1 before it: the sum of f
+unfoldable pub overRunDates : (ℕ → Bool) → ℕ → (ℕ → ℕ) → ℕ → ℕ
+overRunDates isRun n f d = sumBelow n (λ k. cond (leb k d && isRun (d - k)) (f (d - k)) 0)
+
+-- for one category: its window w, the period duration, P, which dates are run, and its cell on a date and period
+module _ (duration periods w : ℕ) (isRun : ℕ → Bool) (cell : ℕ → ℕ → Cell) where
+  -- TOT: all values of the date
+  unfoldable pub totOn : ℕ → ℕ
+  totOn d = sumBelow periods (λ k. cell d (suc k) .value)
+
+  -- OFF: the periods that lie wholly in the window; none does in window 0
+  unfoldable pub offOn : ℕ → ℕ
+  offOn d = sumBelow periods (λ k. cond (liesWithin duration (windowStart w) (windowEnd w) (suc k)) (cell d (suc k) .value) 0)
+
+  -- PEAK: TOT less OFF; with window 0 it is 0 as well
+  unfoldable pub peakOn : ℕ → ℕ
+  peakOn d = cond (eqb w 0) 0 (totOn d - offOn d)
+
+  unfoldable pub totalsOn : ℕ → Totals
+  totalsOn d =
+      record {
+        tot = totOn d;
+        off = offOn d;
+        peak = peakOn d;
+        tot7 = overRunDates isRun 7 totOn d;
+        off7 = overRunDates isRun 7 offOn d;
+        peak7 = overRunDates isRun 7 peakOn d;
+        days7 = overRunDates isRun 7 (λ _. 1) d;
+        ann = annual (overRunDates isRun 365 totOn d) (overRunDates isRun 365 (λ _. 1) d);
+        days = overRunDates isRun 365 (λ _. 1) d;
+        fresh = sumBelow periods (λ k. isFresh (cell d (suc k) .flag));
+        blanks = sumBelow periods (λ k. isBlank (cell d (suc k) .flag));
+      }

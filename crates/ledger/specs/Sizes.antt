@@ -1,0 +1,18 @@
+-- The least length of each lent part of the store, in M meters, C categories, T dates and P periods.
+use Prim.Native.Nat.{ℕ, _+_, _*_}
+
+-- four numbers of two bytes, eight bytes a category record, one byte a day type
+unfoldable pub settingsLength : ℕ → ℕ → ℕ
+settingsLength C T = 8 + 8 * C + T
+
+-- an MPAN a meter, then eight registrations of five entries a meter
+unfoldable pub metersLength : ℕ → ℕ
+metersLength M = M + 40 * M
+
+-- for each date and meter a mark that a set is held, and an entry a period
+unfoldable pub readingsLength : ℕ → ℕ → ℕ → ℕ
+readingsLength M T P = T * M * (1 + P)
+
+-- an entry for each date, category and period
+unfoldable pub cellsLength : ℕ → ℕ → ℕ → ℕ
+cellsLength C T P = T * (C * P)

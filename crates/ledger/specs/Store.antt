@@ -1,0 +1,147 @@
+-- The store's layout: how each thing is read off the lent parts, whatever lists they are, and how it is written there.
+use Prim.Native.Nat.{ℕ, zero, suc, _+_, _-_, _*_, _/_, _%_}
+use mathlib.Core.Bool.{Bool, true, false, not, _&&_, _||_, cond}
+use mathlib.Core.List.{List, [], _∷_, _++_}
+use mathlib.Core.Option.{Option, none, some}
+use lib.Dec.{leb, ltb, eqb}
+use lib.ListN.{length, getD, set, take, drop}
+use lib.Seq.{sets}
+use Rattle.metering.specs.Range.{metersInRange, categoriesInRange, datesInRange}
+use Rattle.metering.specs.Calendar.{durationKnown, periodsPerDay}
+use Rattle.ledger.specs.Method.{Category, categoryAt, Flag, A, D, E, N, flagNumber, Cell, blank}
+use Rattle.ledger.specs.Checks.{Registration}
+use Rattle.ledger.specs.Sizes.{settingsLength, metersLength, readingsLength, cellsLength}
+
+-- ---- settings: duration, M, C and T, two bytes each, big-endian; the category records; the day types
+
+unfoldable pub word : List ℕ → ℕ → ℕ
+word s k = 256 * getD s (2 * k) 0 + getD s (2 * k + 1) 0
+
+unfoldable pub wordBytes : ℕ → List ℕ
+wordBytes n = n / 256 ∷ n % 256 ∷ []
+
+unfoldable pub durationOf : List ℕ → ℕ
+durationOf s = word s 0
+
+unfoldable pub metersOf : List ℕ → ℕ
+metersOf s = word s 1
+
+unfoldable pub categoriesOf : List ℕ → ℕ
+categoriesOf s = word s 2
+
+unfoldable pub datesOf : List ℕ → ℕ
+datesOf s = word s 3
+
+unfoldable pub periodsOf : List ℕ → ℕ
+periodsOf s = periodsPerDay (durationOf s)
+
+-- how many cells a date has
+unfoldable pub rowOf : List ℕ → ℕ
+rowOf s = categoriesOf s * periodsOf s
+
+unfoldable pub categoryOf : List ℕ → ℕ → Category
+categoryOf s c = categoryAt (drop 8 s) c
+
+unfoldable pub dayTypeOf : List ℕ → ℕ → ℕ
+dayTypeOf s d = getD s (8 + 8 * categoriesOf s + d) 0
+
+-- unopened: the kept duration, M, C or T is out of range
+unfoldable pub isOpened : List ℕ → Bool
+isOpened s = durationKnown (durationOf s) && metersInRange (metersOf s) && categoriesInRange (categoriesOf s) && datesInRange (datesOf s)
+
+-- opened, and as long as its own numbers ask
+unfoldable pub settingsReady : List ℕ → Bool
+settingsReady s = isOpened s && leb (settingsLength (categoriesOf s) (datesOf s)) (length s)
+
+unfoldable pub metersReady : List ℕ → List ℕ → Bool
+metersReady s meters = leb (metersLength (metersOf s)) (length meters)
+
+unfoldable pub readingsReady : List ℕ → List ℕ → Bool
+readingsReady s readings = leb (readingsLength (metersOf s) (datesOf s) (periodsOf s)) (length readings)
+
+unfoldable pub cellsReady : List ℕ → List ℕ → Bool
+cellsReady s cells = leb (cellsLength (categoriesOf s) (datesOf s) (periodsOf s)) (length cells)
+
+-- ---- meters: M MPANs, 0 where the slot is free, then for each slot eight registrations; status 0 says that one is unused
+
+unfoldable pub mpanAt : List ℕ → ℕ → ℕ
+mpanAt meters i = getD meters i 0
+
+-- the slot of an MPAN: the first below M that has it or is free, else M
+unfoldable pub slotFrom : ℕ → List ℕ → ℕ → ℕ → ℕ
+slotFrom mpan meters zero i = i
+slotFrom mpan meters (suc n) i =
+    let rest = slotFrom mpan meters n (suc i) in cond (eqb (mpanAt meters i) mpan || eqb (mpanAt meters i) 0) i rest
+
+unfoldable pub slotOf : ℕ → ℕ → List ℕ → ℕ
+slotOf M mpan meters = slotFrom mpan meters M 0
+
+-- where registration k of slot i starts
+unfoldable pub registrationIndex : ℕ → ℕ → ℕ → ℕ
+registrationIndex M i k = M + 40 * i + 5 * k
+
+unfoldable pub registrationAt : ℕ → List ℕ → ℕ → ℕ → Registration
+registrationAt M meters i k =
+    record {
+      start = getD meters (registrationIndex M i k) 0;
+      category = getD meters (registrationIndex M i k + 1) 0;
+      sender = getD meters (registrationIndex M i k + 2) 0;
+      status = getD meters (registrationIndex M i k + 3) 0;
+      limit = getD meters (registrationIndex M i k + 4) 0;
+    }
+
+-- the used ones of the next n registrations of slot i, from k on, up to the first unused
+unfoldable pub usedFrom : ℕ → List ℕ → ℕ → ℕ → ℕ → List Registration
+usedFrom M meters i zero k = []
+usedFrom M meters i (suc n) k =
+    let rest = usedFrom M meters i n (suc k) in
+    cond (eqb (registrationAt M meters i k .status) 0) [] (registrationAt M meters i k ∷ rest)
+
+unfoldable pub registrationsAt : ℕ → List ℕ → ℕ → List Registration
+registrationsAt M meters i = usedFrom M meters i 8 0
+
+-- the registrations of an MPAN, if it is known
+unfoldable pub knownAt : ℕ → ℕ → List ℕ → Bool
+knownAt M mpan meters = ltb (slotOf M mpan meters) M && eqb (mpanAt meters (slotOf M mpan meters)) mpan
+
+-- slot i has the MPAN, and registration k
+unfoldable pub putRegistration : ℕ → ℕ → ℕ → ℕ → Registration → List ℕ → List ℕ
+putRegistration M mpan i k r meters =
+    sets (set meters i mpan) (registrationIndex M i k) (r .start ∷ r .category ∷ r .sender ∷ r .status ∷ r .limit ∷ [])
+
+-- ---- readings: for each date and slot a mark, not 0 where a set is held, then an entry for each period
+
+unfoldable pub setIndex : ℕ → ℕ → ℕ → ℕ → ℕ
+setIndex M P d i = (d * M + i) * (1 + P)
+
+unfoldable pub isHeldAt : ℕ → ℕ → List ℕ → ℕ → ℕ → Bool
+isHeldAt M P readings d i = not (eqb (getD readings (setIndex M P d i) 0) 0)
+
+-- an entry is 0 where no record came, 2 ^ 32 plus the Wh for a reading, 2 ^ 33 for a record that is no reading
+unfoldable pub readingOf : ℕ → Option ℕ
+readingOf e = cond (eqb (e / 4294967296 % 2) 1) (some (e % 4294967296)) none
+
+unfoldable pub readingAt : ℕ → ℕ → List ℕ → ℕ → ℕ → ℕ → Option ℕ
+readingAt M P readings d i j = readingOf (getD readings (setIndex M P d i + j) 0)
+
+-- ---- cells: for each date, category and period an entry, flag + 8 count + 2 ^ 16 origin + 2 ^ 32 value; 0 on a date not run
+
+unfoldable pub entryOf : Cell → ℕ
+entryOf a = flagNumber (a .flag) + 8 * a .count + 65536 * a .origin + 4294967296 * a .value
+
+abbrev pub flagOf : ℕ → Flag
+flagOf n = cond (eqb n 1) A (cond (eqb n 2) D (cond (eqb n 3) E N))
+
+unfoldable pub flagNumberOf : ℕ → ℕ
+flagNumberOf e = e % 8
+
+unfoldable pub cellOfEntry : ℕ → Cell
+cellOfEntry e =
+    record { flag = flagOf (flagNumberOf e); value = e / 4294967296; count = e / 8 % 8192; origin = e / 65536 % 65536 }
+
+unfoldable pub cellIndex : ℕ → ℕ → ℕ → ℕ → ℕ → ℕ
+cellIndex C P d c j = d * (C * P) + (c * P + (j - 1))
+
+-- a date is run where the flag of its first cell is not 0; n is a date's number of cells
+unfoldable pub isRunAt : ℕ → List ℕ → ℕ → Bool
+isRunAt n cells d = not (eqb (flagNumberOf (getD cells (d * n) 0)) 0)
