@@ -1,26 +1,26 @@
 -- Agreement with the plain ledger: every call keeps the relation and answers alike, so every list of calls does.
-use Prim.Native.Nat.{ℕ, zero, suc, _+_, _*_, _≤_, _<_, min}
+use Prim.Native.Nat.{ℕ, zero, suc, _+_, _*_, _≤_, _<_}
 use mathlib.Core.Path.{_≡_, refl, sym, ap, _∙_}
-use mathlib.Core.Logic.{_≢_}
-use mathlib.Core.Bool.{Bool, true, false, not, _&&_, _||_, cond, and-eq-true-iff, true≢false}
+use mathlib.Core.Bool.{Bool, true, false, not, and-eq-true-iff}
 use mathlib.Core.List.{List, [], _∷_, _++_}
-use mathlib.Core.Option.{Option, none, some}
+use mathlib.Core.Option.{Option}
 use native.Mathlib.Omega.{arith}
 use lib.Dec.{eqb, leb, ltb}
 use lib.ListN.{length, getD, take, drop, length-take, take-append-drop}
 use lib.Seq.{length-front}
-use borrow.Author.Tests.{eqb-true, eqb-false, leb-true, leb-false, ltb-true, ltb-false}
+use borrow.Author.Tests.{eqb-true, leb-false, ltb-true, ltb-false}
 use Rattle.metering.specs.Laws.{between-true}
 use Rattle.metering.specs.Range.{between}
-use Rattle.ledger.specs.Method.{Picture, Totals, Cell}
-use Rattle.ledger.specs.Checks.{RegistrationCall, ReceptionCall, Verdict, verdict, startOf, registrationCheck, receptionCheck, runCheck, readCheck, totalsInRange, cellInRange}
+use Rattle.ledger.specs.Method.{Picture}
+use Rattle.ledger.specs.Checks.{RegistrationCall, ReceptionCall, Verdict, verdict, registrationCheck, receptionCheck, runCheck, readCheck, totalsInRange, cellInRange}
 use Rattle.ledger.specs.Sizes.{settingsLength, metersLength, readingsLength, cellsLength}
-use Rattle.ledger.specs.Ledger.{Opening, categories, dates, periods, Meter, Ledger, start, Call, register, receive, run, readTotals, readCell, Answer, refused, accepted, moved, totalsAre, cellIs, answer, left, Lengths, settingsShort, metersShort, cellsShort, anyShort, ledgerRegistrationCheck, afterRegistration, ledgerReceptionCheck, afterReception, cellBy, cellAt, isPicture, isRun, ledgerRunCheck, pictureOf, afterRun, movedBetween, at, ledgerTotalsCheck, ledgerCellCheck, totalsAt, ledgerAnswer, ledgerAfter}
+use Rattle.ledger.specs.Ledger.{Opening, categories, dates, periods, Meter, Ledger, start, Call, register, receive, run, readTotals, readCell, Answer, accepted, moved, totalsAre, cellIs, answer, left, Lengths, settingsShort, metersShort, cellsShort, anyShort, ledgerRegistrationCheck, afterRegistration, ledgerReceptionCheck, afterReception, cellAt, isRun, ledgerRunCheck, afterRun, movedBetween, at, ledgerTotalsCheck, ledgerCellCheck, totalsAt, ledgerAnswer, ledgerAfter}
 use Rattle.ledger.specs.Store.{rowOf, datesOf, categoriesOf, periodsOf, isRunAt}
-use Rattle.ledger.specs.Calls.{metersUnready, runUnready, cellsUnready, OpeningCall, openingVerdict, openedSettings, openedMeters, openedReadings, openedCells, registrationVerdict, registeredMeters, receptionVerdict, receivedReadings, rowAt, runVerdict, ranFrom, totalsVerdict, totalsFor, cellVerdict, cellFor}
+use Rattle.ledger.specs.Calls.{metersUnready, runUnready, cellsUnready, OpeningCall, openingVerdict, openedMeters, openedReadings, openedCells, registrationVerdict, registeredMeters, receptionVerdict, receivedReadings, rowAt, runVerdict, ranFrom, totalsVerdict, totalsFor, cellVerdict, cellFor}
 use Rattle.ledger.specs.Engine.{Parts, callAnswer, metersAfter, readingsAfter, cellsAfter, Item, cut, partsAfter, storeAnswers, cutLengths, ledgerAnswers, lengthsOf, openedParts, opening, AreBytes, BodyOfBytes, BodiesOfBytes, Agreement}
+use Rattle.ledger.proofs.Choices.{passed, passed-verdict, not-false, neither}
 use Rattle.ledger.proofs.Lists.{by-cases, getD-cut, getD-back, block-below}
-use Rattle.ledger.proofs.Relation.{Valid, SettingsAgree, MeterAt, FreeAt, MetersAgree, HeldAt, NotHeldAt, ReadingsAgree, CellsAgree, Sound}
+use Rattle.ledger.proofs.Relation.{SettingsAgree, MeterAt, FreeAt, MetersAgree, HeldAt, NotHeldAt, ReadingsAgree, CellsAgree, Sound}
 use Rattle.ledger.proofs.Slots.{slots-kept}
 use Rattle.ledger.proofs.Registrations.{meter-stands, free-stands, slots-alike}
 use Rattle.ledger.proofs.Settings.{settings-cut, meters-unready, cells-unready, run-unready}
@@ -90,10 +90,6 @@ record Agrees (whole : Lengths) (p : Parts) (l : Ledger) : Type 0 where
   readings : ReadingsAgree (l .opening) (p .readings) (l .known)
   cells : CellsAgree (l .opening) (p .cells) (l .pictures)
   lengths : lengthsOf p ≡ whole
-
-neither : (a b : Bool) → (a || b) ≡ false → (a ≡ false) × (b ≡ false)
-neither true b e = absurd (true≢false e)
-neither false b e = (refl, e)
 
 refused-left : {A : Type 0} (v : Verdict) (before after : A) → eqb (v .number) 0 ≡ false → left v before after ≡ before
 unfolding left
@@ -235,7 +231,7 @@ module _ (p : Parts) (l : Ledger) (agrees : Agrees (lengthsOf p) p l) (n : Lengt
   unfolding ledgerRegistrationCheck registrationCheck afterRegistration
   registration-taken a e =
       let ok = register-step.registration-accepted (l .opening) (l .known) (metersShort (l .opening) (lengthsOf (cut n p))) a (unfold registrationCheck in e) in
-      let enough = enough-meters (register-step.passed (metersShort (l .opening) (lengthsOf (cut n p))) 0 _ e .0) in
+      let enough = enough-meters (passed (metersShort (l .opening) (lengthsOf (cut n p))) 0 _ e .0) in
       let done = register-step.registration-agrees l (cut n p .settings) (cut n p .meters) (cut n p .readings) (enough .0) (enough .1) (enough .2) (agrees .sound) a ok in
       let reg = registeredMeters (cut n p .settings) (cut n p .meters) (cut n p .readings) a in
       let size : length (reg ++ drop (n .meters) (p .meters)) ≡ length (p .meters) = put-back (l .opening) (n .meters) (p .meters) reg (done .as-long ∙ (unfold cut in refl)) in
@@ -296,7 +292,7 @@ module _ (p : Parts) (l : Ledger) (agrees : Agrees (lengthsOf p) p l) (n : Lengt
   unfolding ledgerReceptionCheck receptionCheck afterReception
   reception-taken a bytes e =
       let ok = receive-step.reception-accepted (l .opening) (l .known) (metersShort (l .opening) (lengthsOf (cut n p))) a (unfold receptionCheck in e) in
-      let enough = enough-meters (receive-step.passed-verdict (metersShort (l .opening) (lengthsOf (cut n p))) 0 _ e .0) in
+      let enough = enough-meters (passed-verdict (metersShort (l .opening) (lengthsOf (cut n p))) 0 _ e .0) in
       let done = receive-step.reception-agrees l (cut n p .settings) (cut n p .meters) (cut n p .readings) (enough .0) (enough .1) (enough .2) (agrees .sound) a bytes ok in
       let got = receivedReadings (cut n p .settings) (cut n p .meters) (cut n p .readings) a in
       let size : length (got ++ drop (n .readings) (p .readings)) ≡ length (p .readings) = put-back (l .opening) (n .readings) (p .readings) got (done .as-long ∙ (unfold cut in refl)) in
@@ -346,8 +342,8 @@ module _ (p : Parts) (l : Ledger) (agrees : Agrees (lengthsOf p) p l) (n : Lengt
   run-ok : (d : ℕ) → ledgerRunCheck l (lengthsOf (cut n p)) d .number ≡ 0 → (anyShort (l .opening) (lengthsOf (cut n p)) ≡ false) × (d < dates (l .opening))
   unfolding ledgerRunCheck runCheck
   run-ok d e =
-      let a = register-step.passed (anyShort (l .opening) (lengthsOf (cut n p))) 0 _ e in
-      (a .0, leb-false (dates (l .opening)) d (register-step.passed (leb (dates (l .opening)) d) 8 0 (a .1) .0))
+      let a = passed (anyShort (l .opening) (lengthsOf (cut n p))) 0 _ e in
+      (a .0, leb-false (dates (l .opening)) d (passed (leb (dates (l .opening)) d) 8 0 (a .1) .0))
 
   run-taken : (d : ℕ) → ledgerRunCheck l (lengthsOf (cut n p)) d .number ≡ 0 →
       Agrees (lengthsOf p)
@@ -454,11 +450,11 @@ module _ (p : Parts) (l : Ledger) (agrees : Agrees (lengthsOf p) p l) (n : Lengt
       (cellsShort (l .opening) (lengthsOf (cut n p)) ≡ false) × (d < dates (l .opening)) × (in-range ≡ true) × (isRun l d ≡ true)
   unfolding readCheck
   read-ok d b e =
-      let p1 = register-step.passed (cellsShort (l .opening) (lengthsOf (cut n p))) 0 _ e in
-      let p9 = register-step.passed (leb (dates (l .opening)) d) 8 _ (p1 .1) in
-      let p15 = register-step.passed (not b) 14 _ (p9 .1) in
-      let p14 = register-step.passed (not (isRun l d)) 13 0 (p15 .1) in
-      (p1 .0, leb-false (dates (l .opening)) d (p9 .0), register-step.not-false b (p15 .0), register-step.not-false (isRun l d) (p14 .0))
+      let p1 = passed (cellsShort (l .opening) (lengthsOf (cut n p))) 0 _ e in
+      let p9 = passed (leb (dates (l .opening)) d) 8 _ (p1 .1) in
+      let p15 = passed (not b) 14 _ (p9 .1) in
+      let p14 = passed (not (isRun l d)) 13 0 (p15 .1) in
+      (p1 .0, leb-false (dates (l .opening)) d (p9 .0), not-false b (p15 .0), not-false (isRun l d) (p14 .0))
 
   totals-step : (d c : ℕ) → Step (readTotals d c)
   unfolding callAnswer ledgerAnswer ledgerAfter metersAfter readingsAfter cellsAfter

@@ -1,29 +1,22 @@
 -- The reads answer alike.
-use Prim.Native.Nat.{ℕ, zero, suc, _+_, _-_, _*_, _/_, _%_, _≤_, _<_}
+use Prim.Native.Nat.{ℕ, suc, _+_, _-_, _*_, _≤_, _<_}
 use mathlib.Core.Path.{_≡_, refl, sym, ap, _∙_}
-use mathlib.Core.Logic.{_≢_}
-use mathlib.Core.Bool.{Bool, true, false, not, _&&_, cond, and-eq-true-iff}
-use mathlib.Core.List.{List, [], _∷_}
-use mathlib.Core.Option.{Option, none, some}
+use mathlib.Core.Bool.{Bool, true, cond}
+use mathlib.Core.List.{List}
 use native.Mathlib.Omega.{arith}
 use native.Mathlib.Nat.{mul-le-mul-right}
-use lib.Dec.{eqb, leb, ltb}
-use lib.ListN.{length, getD}
-use borrow.Author.Tests.{leb-true, leb-false, ltb-true}
-use Rattle.metering.specs.Sum.{sumBelow}
+use lib.Dec.{leb}
 use Rattle.metering.specs.Average.{annual}
-use Rattle.metering.specs.Laws.{between-true}
 use Rattle.metering.specs.Calendar.{liesWithin, windowStart, windowEnd}
-use Rattle.ledger.specs.Method.{Picture, Cell, Totals, isFresh, isBlank, overRunDates, totOn, offOn, peakOn, totalsOn}
-use Rattle.ledger.specs.Checks.{readCheck, totalsInRange, cellInRange}
-use Rattle.ledger.specs.Ledger.{Opening, categories, dates, periods, category, dayType, Ledger, cellBy, cellAt, isPicture, isRun, totalsAt}
-use Rattle.ledger.specs.Store.{durationOf, categoriesOf, datesOf, periodsOf, rowOf, categoryOf, cellIndex, cellOfEntry, isRunAt}
+use Rattle.ledger.specs.Method.{Cell, isFresh, isBlank, overRunDates, totOn, offOn, peakOn, totalsOn}
+use Rattle.ledger.specs.Ledger.{categories, dates, periods, category, dayType, Ledger, cellAt, isPicture, isRun, totalsAt}
+use Rattle.ledger.specs.Store.{periodsOf, rowOf, cellIndex, cellOfEntry, isRunAt}
 use Rattle.ledger.specs.Calls.{rowAt, cellFor, totalsFor}
 use Rattle.ledger.proofs.Lists.{by-cases, sumBelow-cong, block-below}
 use Rattle.ledger.proofs.Entries.{cell-entry}
 use Rattle.ledger.proofs.Columns.{cell-small}
-use Rattle.ledger.proofs.Rows.{columnCell, codeIf, run-at}
-use Rattle.ledger.proofs.Relation.{Valid, SettingsAgree, shapes, CellsAgree, Sound}
+use Rattle.ledger.proofs.Rows.{columnCell, run-at}
+use Rattle.ledger.proofs.Relation.{SettingsAgree, shapes, CellsAgree, Sound}
 use Rattle.ledger.proofs.Runs.{column-is, valid-periods, shapes-small}
 
 -- ---- totals over cells that are alike on run dates

@@ -1,12 +1,12 @@
 -- One column of cells, a category and period over the dates: what a changed date changes after it.
 use Prim.Native.Nat.{ℕ, zero, suc, _+_, _≤_, _<_}
-use mathlib.Core.Path.{_≡_, refl, sym, ap, _∙_}
+use mathlib.Core.Path.{_≡_, refl, sym, _∙_}
 use mathlib.Core.Logic.{_≢_}
-use mathlib.Core.Bool.{Bool, true, false, cond}
+use mathlib.Core.Bool.{Bool, true, false}
 use native.Mathlib.Omega.{arith}
-use native.Mathlib.Nat.{add-zero, add-suc, not-suc-le-zero}
+use native.Mathlib.Nat.{add-zero, add-suc}
 use lib.Dec.{eqb}
-use borrow.Author.Tests.{eq-eqb, ne-eqb, eqb-true, eqb-false}
+use borrow.Author.Tests.{eqb-true, eqb-false}
 use Rattle.ledger.specs.Method.{Fresh, Cell, blank, cellFrom, Day, notRun, ran, pass, latest, cellOf, cellOn}
 use Rattle.ledger.proofs.Lists.{by-cases}
 use Rattle.ledger.proofs.Entries.{Small, SmallFresh, blank-small, cellFrom-small}

@@ -1,28 +1,27 @@
 -- Demand 2 and the consequences of agreement.
-use Prim.Native.Nat.{ℕ, zero, suc, _+_, _*_, _/_, _%_, _≤_, _<_}
-use mathlib.Core.Path.{_≡_, refl, sym, ap, _∙_, fun-ext}
-use mathlib.Core.Logic.{_≢_, _↔_, _⊎_, inl, inr, ⊎-elim}
-use mathlib.Core.Bool.{Bool, true, false, not, _&&_, _||_, cond, and-eq-true-iff, true≢false}
-use mathlib.Core.List.{List, [], _∷_}
+use Prim.Native.Nat.{ℕ, zero, suc, _+_, _/_, _%_, _≤_, _<_}
+use mathlib.Core.Path.{_≡_, refl, ap, fun-ext}
+use mathlib.Core.Logic.{_≢_, _⊎_, inl, inr, ⊎-elim}
+use mathlib.Core.Bool.{Bool, true, false, not, _&&_, cond, true≢false}
+use mathlib.Core.List.{List}
 use mathlib.Core.Option.{Option, none, some}
 use native.Mathlib.Omega.{arith}
 use native.Mathlib.Nat.{add-zero, zero-add, add-suc, suc-add, mul-le-mul-right}
 use lib.Dec.{eqb, leb, ltb}
 use lib.ListN.{length}
-use borrow.Author.Tests.{eq-eqb, ne-eqb, eqb-true, eqb-false, leb-true, leb-false, le-leb, lt-leb, lt-ltb, le-ltb, ltb-true, ltb-false}
-use Rattle.metering.specs.Sum.{sumBelow}
+use borrow.Author.Tests.{eq-eqb, ne-eqb, eqb-true, eqb-false, leb-false, lt-leb, le-ltb, ltb-false}
 use Rattle.metering.specs.Mpan.{mpanValid}
 use Rattle.metering.specs.Range.{between}
-use Rattle.metering.specs.Calendar.{durationKnown, periodsPerDay, periodEnding}
+use Rattle.metering.specs.Calendar.{durationKnown, periodEnding}
 use Rattle.metering.specs.Laws.{between-true, duration-pos, periodsPerDay-times, periodEnding-at, periodEnding-is, periodEnding-le}
-use Rattle.ledger.specs.Method.{Category, Picture, freshIn, Fresh, absent, own, pooled, Cell, Flag, A, D, E, N, blank, carried, cellFrom, Day, notRun, ran, pass, latest, cellOf, cellOn, movedCell}
+use Rattle.ledger.specs.Method.{Category, Picture, freshIn, Fresh, absent, own, pooled, Cell, Flag, A, D, E, N, blank, carried, cellFrom, Day, notRun, ran, pass, latest, cellOf, cellOn}
 use Rattle.ledger.specs.Checks.{Registration, ReceptionCall, Verdict, verdict, firstFailed, anyBelow, endMinute, quality, wattHoursAt, recordNumber, bodyCheck, inForceCheck, receptionCheck, runCheck, readCheck, totalsInRange, cellInRange}
-use Rattle.ledger.specs.Ledger.{Opening, categories, dates, periods, category, dayType, Meter, Ledger, Call, receive, run, readTotals, readCell, Answer, refused, accepted, moved, totalsAre, cellIs, answer, Lengths, metersShort, cellsShort, anyShort, meterWith, currentOf, at, cellBy, cellAt, dayOf, isPicture, isRun, ledgerReceptionCheck, ledgerRunCheck, ledgerTotalsCheck, ledgerCellCheck, pictureOf, afterRun, movedBetween, totalsAt, ledgerAnswer}
+use Rattle.ledger.specs.Ledger.{Opening, categories, dates, periods, category, dayType, Ledger, run, Answer, refused, accepted, moved, totalsAre, cellIs, answer, Lengths, metersShort, cellsShort, anyShort, meterWith, currentOf, at, cellBy, cellAt, dayOf, isPicture, isRun, ledgerReceptionCheck, ledgerRunCheck, ledgerTotalsCheck, ledgerCellCheck, pictureOf, afterRun, movedBetween, totalsAt, ledgerAnswer}
 use Rattle.ledger.specs.Demands.{GoodRecord, MayReceive, ReceptionExact, RunIsMethod, NeverNotRun, SecondRunMovesNothing, SamePicturesSameCells, CopiesHaveOrigins}
 use Rattle.ledger.proofs.Lists.{by-cases, below-suc, sumBelow-none}
 use Rattle.ledger.proofs.Entries.{moved-same}
-use Rattle.ledger.proofs.Register.{passed, not-false}
-use Rattle.ledger.proofs.Receive.{passed-verdict, first-passed}
+use Rattle.ledger.proofs.Choices.{passed, passed-verdict, not-false}
+use Rattle.ledger.proofs.Receive.{first-passed}
 
 -- ---- runs and reads
 

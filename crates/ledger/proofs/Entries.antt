@@ -1,14 +1,15 @@
 -- A cell's entry: read what was put, tell two apart, carry forward.
-use Prim.Native.Nat.{ℕ, zero, suc, _+_, _-_, _*_, _/_, _%_, _≤_, _<_}
+use Prim.Native.Nat.{ℕ, _+_, _-_, _/_, _%_, _≤_, _<_}
 use mathlib.Core.Path.{_≡_, refl, sym, ap, _∙_}
-use mathlib.Core.Logic.{_≢_, _⊎_, ⊎-elim}
-use mathlib.Core.Bool.{Bool, true, false, not, _&&_, _||_, cond, and-eq-true-iff}
+use mathlib.Core.Logic.{_≢_}
+use mathlib.Core.Bool.{true, false, cond}
 use native.Mathlib.Omega.{arith}
-use lib.Dec.{eqb, leb}
-use borrow.Author.Tests.{eq-eqb, ne-eqb, eqb-true, eqb-false, le-leb, lt-leb}
+use lib.Dec.{eqb}
+use borrow.Author.Tests.{eq-eqb, eqb-true, eqb-false}
 use Rattle.ledger.specs.Method.{Flag, A, D, E, N, flagNumber, Cell, blank, carried, sameCell, movedCell, Fresh, absent, own, pooled, cellFrom}
 use Rattle.ledger.specs.Store.{entryOf, flagOf, flagNumberOf, cellOfEntry}
-use Rattle.ledger.specs.Calls.{carriedEntry, isOwn, seen, rowEntry}
+use Rattle.ledger.specs.Calls.{carriedEntry, isOwn, rowEntry}
+use Rattle.ledger.proofs.Choices.{both}
 use Rattle.ledger.proofs.Lists.{by-cases}
 
 -- what an entry has room for
@@ -67,9 +68,6 @@ sameCell-refl : (a : Cell) → sameCell a a ≡ true
 unfolding sameCell
 sameCell-refl a =
     rw (eq-eqb (flagNumber (a .flag)) (flagNumber (a .flag)) refl, eq-eqb (a .value) (a .value) refl, eq-eqb (a .count) (a .count) refl, eq-eqb (a .origin) (a .origin) refl)
-
-both : (a b : Bool) → (a && b) ≡ true → (a ≡ true) × (b ≡ true)
-both a b h = and-eq-true-iff a b .0 h
 
 same-entry : (a b : Cell) → sameCell a b ≡ true → entryOf a ≡ entryOf b
 unfolding sameCell entryOf

@@ -1,4 +1,5 @@
 -- The proof of agreement, and laws for the code above.
+pub mod Choices
 pub mod Lists
 pub mod Entries
 pub mod Columns

@@ -1,24 +1,20 @@
 -- Laws of lists and sums that the proof of agreement and the code's proofs cite.
-use Prim.Native.Nat.{ℕ, zero, suc, _+_, _-_, _*_, _/_, _%_, _≤_, _<_, min, zero-le}
+use Prim.Native.Nat.{ℕ, zero, suc, _+_, _*_, _/_, _≤_, _<_, zero-le}
 use mathlib.Core.Path.{_≡_, refl, sym, ap, _∙_}
-use mathlib.Core.Logic.{_≢_, _⊎_, ⊎-elim}
-use mathlib.Core.Bool.{Bool, true, false, not, _&&_, _||_, cond}
+use mathlib.Core.Logic.{_≢_, ⊎-elim}
+use mathlib.Core.Bool.{cond}
 use mathlib.Core.List.{List, [], _∷_, _++_}
 use native.Mathlib.Omega.{arith}
 use native.Mathlib.Numerals.{add-one}
-use native.Mathlib.Nat.{zero-add, add-zero, add-suc, suc-add, suc-mul, zero-mul, eq-or-lt-of-le, le-of-suc-le-suc, not-suc-le-zero, mul-le-mul-right, lt-irrefl}
-use lib.ListN.{length, getD, take, drop, set, length-append, length-take, length-drop, List·getD-append, length-set}
-use lib.Seq.{sets, length-sets, getD-set-same, getD-set-other, getD-append-add, getD-take, getD-drop, length-take-le}
-use lib.Arith.{digits-div, digits-mod}
+use native.Mathlib.Nat.{zero-add, add-zero, add-suc, suc-add, suc-mul, zero-mul, eq-or-lt-of-le, le-of-suc-le-suc, not-suc-le-zero, mul-le-mul-right}
+use lib.ListN.{length, getD, take, drop, set, length-append, List·getD-append, length-set}
+use lib.Seq.{sets, getD-set-same, getD-set-other, getD-append-add, getD-take}
+use lib.Arith.{digits-div}
 use lib.Dec.{eqb}
-use borrow.Author.Tests.{eq-eqb, ne-eqb, eqb-true, eqb-false}
-use Rattle.metering.specs.Sum.{sumBelow, sumBelow-zero, sumBelow-suc}
+use borrow.Author.Tests.{eq-eqb, ne-eqb}
+use Rattle.metering.specs.Sum.{sumBelow, sumBelow-suc}
+pub use Rattle.metering.specs.Laws.{by-cases}
 use Rattle.ledger.specs.Table.{tabulate}
-
--- both ways of a test, with its equation
-pub by-cases : {P : Type 0} (b : Bool) → (b ≡ true → P) → (b ≡ false → P) → P
-by-cases true f g = f refl
-by-cases false f g = g refl
 
 -- what holds below n and at n holds below suc n
 pub below-suc : (P : ℕ → Type 0) (n : ℕ) → ((k : ℕ) → k < n → P k) → P n → (k : ℕ) → k < suc n → P k

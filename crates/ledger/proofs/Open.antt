@@ -1,35 +1,31 @@
 -- An accepted opening gives the relation.
-use Prim.Native.Nat.{ℕ, zero, suc, _+_, _-_, _*_, _/_, _%_, _≤_, _<_}
+use Prim.Native.Nat.{ℕ, _+_, _*_, _/_, _%_, _≤_, _<_}
 use mathlib.Core.Path.{_≡_, refl, sym, ap, _∙_}
-use mathlib.Core.Logic.{_⊎_, ⊎-elim}
-use mathlib.Core.Bool.{Bool, true, false, not, _&&_, _||_, cond, and-eq-true-iff, true≢false}
-use mathlib.Core.List.{List, [], _∷_, _++_}
-use mathlib.Core.Option.{Option, none, some}
+use mathlib.Core.Bool.{Bool, true, false, not, _&&_, cond, and-eq-true-iff, true≢false}
+use mathlib.Core.List.{List, [], _++_}
+use mathlib.Core.Option.{none}
 use native.Mathlib.Omega.{arith}
-use native.Mathlib.Nat.{add-zero, zero-add, add-assoc}
-use lib.Dec.{eqb, leb, ltb}
-use lib.ListN.{length, getD, take, drop, replicate, length-append, length-drop, length-replicate, getD-replicate, List·getD-append}
+use native.Mathlib.Nat.{add-assoc}
+use lib.Dec.{eqb, ltb}
+use lib.ListN.{length, getD, drop, replicate, length-append, length-drop, length-replicate, getD-replicate, List·getD-append}
 use lib.Seq.{getD-append-add, getD-drop}
-use borrow.Author.Tests.{eqb-true, eq-eqb, leb-true, ltb-false}
+use borrow.Author.Tests.{eqb-true, eq-eqb, ltb-false}
 use Rattle.metering.specs.Range.{between, metersInRange, categoriesInRange, datesInRange}
 use Rattle.metering.specs.Calendar.{durationKnown, periodsPerDay}
 use Rattle.metering.specs.Laws.{between-true, duration-is}
-use Rattle.ledger.specs.Method.{Category, categoryAt, Picture}
+use Rattle.ledger.specs.Method.{categoryAt}
 use Rattle.ledger.specs.Checks.{Verdict, verdict, firstFailed, categoryNumber, dayTypeNumber, orElse, sizesValid, openingCheck}
 use Rattle.ledger.specs.Sizes.{settingsLength, metersLength, readingsLength, cellsLength}
-use Rattle.ledger.specs.Ledger.{Opening, categories, dates, periods, category, dayType, Meter, Ledger, start, isPicture}
+use Rattle.ledger.specs.Ledger.{Opening, categories, dates, periods}
 use Rattle.ledger.specs.Store.{word, wordBytes, durationOf, metersOf, categoriesOf, datesOf, categoryOf, dayTypeOf, mpanAt, registrationIndex, registrationAt, setIndex, isHeldAt}
-use Rattle.ledger.specs.Calls.{OpeningCall, openingShort, openingVerdict, emptied, openedSettings, openedMeters, openedReadings, openedCells, rowAt}
+use Rattle.ledger.specs.Calls.{OpeningCall, openingShort, openingVerdict, emptied, openedSettings, rowAt}
 use Rattle.ledger.specs.Engine.{opening}
+use Rattle.ledger.proofs.Choices.{passed-verdict, not-false, neither}
 use Rattle.ledger.proofs.Lists.{by-cases, block-below}
-use Rattle.ledger.proofs.Relation.{Valid, SettingsAgree, FreeAt, MetersAgree, NotHeldAt, ReadingsAgree, CellsAgree, Sound}
+use Rattle.ledger.proofs.Relation.{Valid, SettingsAgree, FreeAt, MetersAgree, ReadingsAgree, CellsAgree}
 use Rattle.ledger.proofs.Receive.{set-below}
 
 -- ---- what an accepted opening tells
-
-passed-verdict : (b : Bool) (n : ℕ) (rest : Verdict) → (cond b (verdict (suc n)) rest) .number ≡ 0 → (b ≡ false) × (rest .number ≡ 0)
-passed-verdict true n rest e = absurd (omega arith)
-passed-verdict false n rest e = (refl, e)
 
 passed-else : (a b : Verdict) → orElse a b .number ≡ 0 → (a .number ≡ 0) × (b .number ≡ 0)
 unfolding orElse
@@ -37,14 +33,6 @@ passed-else a b e =
     by-cases (eqb (a .number) 0)
     (λ q. (eqb-true (a .number) 0 q, rw q at e))
     (λ q. let z : a .number ≡ 0 = rw q at e in absurd (true≢false (sym (eq-eqb (a .number) 0 z) ∙ q)))
-
-not-false : (b : Bool) → not b ≡ false → b ≡ true
-not-false true e = refl
-not-false false e = absurd (true≢false e)
-
-neither : (a b : Bool) → (a || b) ≡ false → (a ≡ false) × (b ≡ false)
-neither true b e = absurd (true≢false e)
-neither false b e = (refl, e)
 
 pub record Opened (settings meters readings cells : List ℕ) (a : OpeningCall) : Type 0 where
   pub valid : Valid (opening a)

@@ -1,43 +1,33 @@
 -- A registration: the same checks, and the relation kept.
-use Prim.Native.Nat.{ℕ, zero, suc, _+_, _*_, _≤_, _<_}
+use Prim.Native.Nat.{ℕ, zero, suc, _+_, _≤_, _<_}
 use mathlib.Core.Path.{_≡_, refl, sym, ap, _∙_}
 use mathlib.Core.Logic.{_≢_}
-use mathlib.Core.Bool.{Bool, true, false, not, _&&_, _||_, cond, and-eq-true-iff, true≢false}
+use mathlib.Core.Bool.{Bool, true, false, not, _&&_, cond, and-eq-true-iff}
 use mathlib.Core.List.{List, [], _∷_, _++_}
 use mathlib.Core.Option.{Option, none, some}
 use native.Mathlib.Omega.{arith}
-use native.Mathlib.Nat.{add-zero, zero-add}
+use native.Mathlib.Nat.{zero-add}
 use native.Mathlib.Numerals.{add-one}
 use lib.Dec.{eqb, leb, ltb}
-use lib.ListN.{length, getD, length-append}
-use borrow.Author.Tests.{eq-eqb, ne-eqb, leb-true, leb-false, le-leb, lt-leb, lt-ltb, le-ltb, ltb-true}
+use lib.ListN.{length, length-append}
+use borrow.Author.Tests.{eq-eqb, ne-eqb, leb-false, lt-ltb, ltb-true}
 use Rattle.metering.specs.Mpan.{mpanValid}
 use Rattle.metering.specs.Range.{between}
 use Rattle.metering.specs.Laws.{mpanValid-bounds, between-true}
-use Rattle.ledger.specs.Method.{ReadingSet, Picture}
 use Rattle.ledger.specs.Checks.{Registration, RegistrationCall, registered, startOf, anyBelow, notAfterLast, registrationInRange, meterNumber, registrationCheck}
-use Rattle.ledger.specs.Sizes.{metersLength}
-use Rattle.ledger.specs.Ledger.{Opening, categories, dates, periods, Meter, Ledger, meterWith, changed, registrationsOf, isHeld, heldFrom, withRegistration, registerIn, afterRegistration}
-use Rattle.ledger.specs.Store.{usedFrom, metersOf, datesOf, categoriesOf, periodsOf, mpanAt, slotOf, registrationAt, registrationsAt, knownAt, putRegistration, isHeldAt}
+use Rattle.ledger.specs.Ledger.{Opening, categories, dates, Meter, Ledger, meterWith, changed, registrationsOf, heldFrom, withRegistration, registerIn}
+use Rattle.ledger.specs.Store.{usedFrom, metersOf, datesOf, categoriesOf, periodsOf, mpanAt, slotOf, registrationAt, registrationsAt, knownAt, putRegistration}
 use Rattle.ledger.specs.Calls.{usedOf, slotFor, registrationsFor, heldFromAt, registeredMeters}
+use Rattle.ledger.proofs.Choices.{passed, not-false}
 use Rattle.ledger.proofs.Lists.{by-cases}
-use Rattle.ledger.proofs.Relation.{SoundRegistrations, SoundMeter, SoundMeters, SettingsAgree, SlotsFrom, MeterAt, FreeAt, MetersAgree, HeldAt, NotHeldAt, ReadingsAgree, Sound}
-use Rattle.ledger.proofs.Slots.{positionOf, position-new, at-position, free-past, slots-kept, slots-changed, slots-added, slot-is}
+use Rattle.ledger.proofs.Relation.{SoundRegistrations, SoundMeter, SoundMeters, SettingsAgree, MeterAt, FreeAt, MetersAgree, HeldAt, NotHeldAt, ReadingsAgree, Sound}
+use Rattle.ledger.proofs.Slots.{positionOf, position-new, at-position, free-past, slots-changed, slots-added, slot-is}
 use Rattle.ledger.proofs.Registrations.{SlotSame, meter-stands, free-stands, length-put, put-mpan, put-registration, put-others, put-slots, used-more}
 
 pub any-cong : (n : ℕ) (f g : ℕ → Bool) → ((k : ℕ) → k < n → f k ≡ g k) → anyBelow n f ≡ anyBelow n g
 unfolding anyBelow
 any-cong zero f g h = refl
 any-cong (suc n) f g h = rw (any-cong n f g (λ k l. h k (omega arith)), h n (omega arith))
-
--- a check that lets a call pass
-pub passed : (b : Bool) (n rest : ℕ) → cond b (suc n) rest ≡ 0 → (b ≡ false) × (rest ≡ 0)
-passed true n rest e = absurd (omega arith)
-passed false n rest e = (refl, e)
-
-pub not-false : (b : Bool) → not b ≡ false → b ≡ true
-not-false true e = refl
-not-false false e = absurd (true≢false e)
 
 -- ---- what the store finds of an MPAN is what the ledger finds
 

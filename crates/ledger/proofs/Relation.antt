@@ -1,12 +1,12 @@
 -- The relation between the parts of a store and the plain ledger that each call keeps.
-use Prim.Native.Nat.{ℕ, zero, suc, _+_, _*_, _/_, _%_, _≤_, _<_}
+use Prim.Native.Nat.{ℕ, suc, _*_, _/_, _%_, _≤_, _<_}
 use mathlib.Core.Path.{_≡_}
 use mathlib.Core.Logic.{_≢_, _⊎_}
-use mathlib.Core.Bool.{Bool, true, false}
+use mathlib.Core.Bool.{false}
 use mathlib.Core.List.{List, [], _∷_}
 use mathlib.Core.Option.{Option, none, some}
-use lib.ListN.{length, getD}
-use Rattle.ledger.specs.Method.{Category, ReadingSet, Entry, Picture, wattHours, Fresh, absent, freshIn, Cell}
+use lib.ListN.{length}
+use Rattle.ledger.specs.Method.{Category, ReadingSet, Picture, wattHours, Fresh, absent, freshIn}
 use Rattle.ledger.specs.Checks.{Registration}
 use Rattle.ledger.specs.Sizes.{settingsLength, metersLength, readingsLength, cellsLength}
 use Rattle.ledger.specs.Ledger.{Opening, categories, dates, periods, category, dayType, Meter, Ledger, isHeld, isPicture}

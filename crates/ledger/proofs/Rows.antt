@@ -2,24 +2,24 @@
 use Prim.Native.Nat.{ℕ, zero, suc, _+_, _-_, _*_, _≤_, _<_}
 use mathlib.Core.Path.{_≡_, refl, sym, ap, _∙_}
 use mathlib.Core.Logic.{_≢_}
-use mathlib.Core.Bool.{Bool, true, false, not, _&&_, cond, and-eq-true-iff, true≢false}
-use mathlib.Core.List.{List, [], _∷_, _++_}
-use mathlib.Core.Option.{Option, none, some}
+use mathlib.Core.Bool.{Bool, true, false, not, _&&_, and-eq-true-iff, true≢false}
+use mathlib.Core.List.{List}
+use mathlib.Core.Option.{some}
 use native.Mathlib.Omega.{arith}
 use native.Mathlib.Nat.{add-zero, zero-add, add-suc, suc-add, mul-le-mul-right}
 use lib.Arith.{lt-of-le-ne}
 use lib.Dec.{eqb, leb}
-use lib.ListN.{length, getD, take, drop}
+use lib.ListN.{length, getD}
 use lib.Seq.{sets, sets-eq, length-sets}
 use borrow.Author.Tests.{eq-eqb, ne-eqb, eqb-true, eqb-false, leb-true, leb-false}
-use Rattle.metering.specs.Sum.{sumBelow, sumBelow-zero, sumBelow-suc}
-use Rattle.ledger.specs.Method.{Flag, A, D, E, N, flagNumber, Fresh, Cell, blank, carried, cellFrom, movedCell, Day, notRun, ran, latest, cellOn}
+use Rattle.metering.specs.Sum.{sumBelow, sumBelow-suc}
+use Rattle.ledger.specs.Method.{A, D, E, N, flagNumber, Fresh, Cell, blank, carried, cellFrom, movedCell, Day, latest, cellOn}
 use Rattle.ledger.specs.Table.{tabulate}
 use Rattle.ledger.specs.Store.{rowOf, dayTypeOf, entryOf, flagNumberOf, isRunAt}
-use Rattle.ledger.specs.Calls.{carriedEntry, rowEntry, rowAt, putRow, lastRun, overFrom, seen, differing, Ran, isOwn, followRow, overAfter, movedInRow, carryOn}
-use Rattle.ledger.proofs.Lists.{by-cases, below-suc, getD-sets-below, getD-sets-above, getD-sets-at, length-tabulate, getD-tabulate, sumBelow-cong, sumBelow-none, none-of-sum, sumBelow-more, block-other, block-below}
-use Rattle.ledger.proofs.Entries.{Small, SmallFresh, flag-entry, entry-some, moved-entry, unmoved, moved-same, blank-small, carried-small, carry-entry, row-entry, follow-entry, over-entry}
-use Rattle.ledger.proofs.Columns.{dayIf, latest-suc, latest-other-type, latest-not-run, latest-run, cell-run, cell-not-run, latest-small, cell-small, latest-before, latest-other, latest-after, cell-alike}
+use Rattle.ledger.specs.Calls.{carriedEntry, rowEntry, rowAt, putRow, lastRun, overFrom, seen, differing, Ran, followRow, overAfter, movedInRow, carryOn}
+use Rattle.ledger.proofs.Lists.{by-cases, below-suc, getD-sets-below, getD-sets-above, getD-sets-at, length-tabulate, getD-tabulate, sumBelow-cong, sumBelow-none, none-of-sum, sumBelow-more}
+use Rattle.ledger.proofs.Entries.{Small, SmallFresh, flag-entry, entry-some, moved-entry, unmoved, moved-same, carry-entry, row-entry, follow-entry, over-entry}
+use Rattle.ledger.proofs.Columns.{dayIf, latest-other-type, latest-not-run, latest-run, cell-run, cell-not-run, latest-small, cell-small, latest-before, latest-other, latest-after, cell-alike}
 
 -- ---- a row put in place
 

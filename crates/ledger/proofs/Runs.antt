@@ -1,32 +1,31 @@
 -- A run keeps the relation, and what it reports is the number of the ledger's cells that differ.
-use Prim.Native.Nat.{ℕ, zero, suc, _+_, _-_, _*_, _/_, _%_, _≤_, _<_, zero-le}
+use Prim.Native.Nat.{ℕ, suc, _+_, _-_, _*_, _/_, _%_, _≤_, _<_, zero-le}
 use mathlib.Core.Path.{_≡_, refl, sym, ap, _∙_, fun-ext}
 use mathlib.Core.Logic.{_≢_, ⊎-elim}
-use mathlib.Core.Bool.{Bool, true, false, _&&_, cond, and-eq-true-iff}
+use mathlib.Core.Bool.{true, false, _&&_, cond, and-eq-true-iff}
 use mathlib.Core.List.{List, [], _∷_, _++_}
 use mathlib.Core.Option.{Option, none, some}
 use native.Mathlib.Omega.{arith}
-use native.Mathlib.Nat.{mod-lt, div-lt-iff-lt-mul, add-zero, mul-le-mul-right}
+use native.Mathlib.Nat.{mod-lt, div-lt-iff-lt-mul, mul-le-mul-right}
 use lib.Arith.{digits-div, digits-mod}
 use lib.Dec.{eqb, leb}
 use lib.ListN.{length, length-append}
-use borrow.Author.Tests.{eq-eqb, ne-eqb, eqb-true, leb-true}
-use Rattle.metering.specs.Sum.{sumBelow}
+use borrow.Author.Tests.{eq-eqb, ne-eqb, leb-true}
 use Rattle.metering.specs.Average.{average}
 use Rattle.metering.specs.Laws.{average-le}
 use Rattle.metering.specs.Calendar.{periodsPerDay}
-use Rattle.ledger.specs.Method.{Category, isSmart, sameFamily, ReadingSet, Entry, Picture, wattHours, present, total, Fresh, absent, own, pooled, freshOf, freshIn, Cell, movedCell, Day, cellOn}
+use Rattle.ledger.specs.Method.{Category, isSmart, sameFamily, ReadingSet, Picture, wattHours, present, total, own, freshOf, freshIn, cellOn}
 use Rattle.ledger.specs.Checks.{Registration, later, inForceAfter, inForce}
 use Rattle.ledger.specs.Sizes.{cellsLength}
 use Rattle.ledger.specs.Ledger.{Opening, categories, dates, periods, category, dayType, Meter, Ledger, at, dayOf, cellBy, isPicture, entriesOf, pictureOf, movedBetween}
 use Rattle.ledger.specs.Table.{tabulate}
-use Rattle.ledger.specs.Store.{metersOf, categoriesOf, datesOf, periodsOf, rowOf, categoryOf, dayTypeOf}
-use Rattle.ledger.specs.Calls.{tally, familyTally, freshAt, carriedEntry, rowEntry, rowAt, putRow, lastRun, overFrom, seen, differing, Ran, carryOn, newRow, ranFrom}
+use Rattle.ledger.specs.Store.{periodsOf, rowOf, categoryOf}
+use Rattle.ledger.specs.Calls.{familyTally, freshAt, carriedEntry, rowEntry, rowAt, putRow, lastRun, overFrom, seen, differing, carryOn, newRow, ranFrom}
 use Rattle.ledger.proofs.Lists.{by-cases, sumBelow-cong, sumBelow-rows}
 use Rattle.ledger.proofs.Entries.{SmallFresh}
 use Rattle.ledger.proofs.Columns.{dayIf}
-use Rattle.ledger.proofs.Rows.{columnDay, columnCell, CellsAre, RunLeaves, run-good}
-use Rattle.ledger.proofs.Relation.{Valid, SmallSet, SoundRegistrations, SoundMeter, SoundMeters, SoundPicture, SettingsAgree, MetersFrom, MetersAgree, ReadingsAgree, shapeOf, shapes, CellsAgree, Sound}
+use Rattle.ledger.proofs.Rows.{columnCell, RunLeaves, run-good}
+use Rattle.ledger.proofs.Relation.{Valid, SoundRegistrations, SoundMeters, SoundPicture, SettingsAgree, MetersAgree, ReadingsAgree, shapeOf, shapes, CellsAgree, Sound}
 use Rattle.ledger.proofs.Tallies.{count-le, sum-le, family-total, tally-is}
 
 -- ---- own shapes have room

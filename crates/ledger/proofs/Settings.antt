@@ -1,19 +1,19 @@
 -- Settings that are cut at their end: short and refused, or alike in all that is read of them.
-use Prim.Native.Nat.{ℕ, zero, suc, _+_, _*_, _/_, _≤_, _<_, min}
-use mathlib.Core.Path.{_≡_, refl, sym, ap, _∙_}
+use Prim.Native.Nat.{ℕ, _+_, _*_, _≤_, _<_}
+use mathlib.Core.Path.{_≡_, refl, sym, _∙_}
 use mathlib.Core.Logic.{_⊎_, ⊎-elim}
-use mathlib.Core.Bool.{Bool, true, false, not, _&&_, _||_, cond, and-eq-true-iff, true≢false}
-use mathlib.Core.List.{List, [], _∷_, _++_}
+use mathlib.Core.Bool.{Bool, true, false, not, _&&_, _||_}
+use mathlib.Core.List.{List}
 use native.Mathlib.Omega.{arith}
-use lib.Dec.{eqb, leb, ltb}
+use lib.Dec.{leb, ltb}
 use lib.ListN.{length, getD, take, drop, length-take}
 use lib.Seq.{getD-drop}
-use borrow.Author.Tests.{eq-eqb, leb-true, leb-false, le-leb, lt-leb, lt-ltb, le-ltb}
+use borrow.Author.Tests.{leb-true, leb-false, le-leb, lt-leb, lt-ltb, le-ltb}
 use Rattle.metering.specs.Range.{between, metersInRange, categoriesInRange, datesInRange}
-use Rattle.metering.specs.Calendar.{durationKnown, periodsPerDay}
-use Rattle.ledger.specs.Method.{Category, categoryAt}
+use Rattle.metering.specs.Calendar.{durationKnown}
+use Rattle.ledger.specs.Method.{categoryAt}
 use Rattle.ledger.specs.Sizes.{settingsLength, metersLength, readingsLength, cellsLength}
-use Rattle.ledger.specs.Ledger.{Opening, categories, dates, periods, category, dayType, Lengths, settingsShort, metersShort, cellsShort, anyShort}
+use Rattle.ledger.specs.Ledger.{Opening, categories, dates, periods, settingsShort, metersShort, cellsShort, anyShort}
 use Rattle.ledger.specs.Store.{word, durationOf, metersOf, categoriesOf, datesOf, periodsOf, categoryOf, dayTypeOf, isOpened, settingsReady, metersReady, readingsReady, cellsReady}
 use Rattle.ledger.specs.Calls.{metersUnready, runUnready, cellsUnready}
 use Rattle.ledger.proofs.Lists.{by-cases, getD-cut}

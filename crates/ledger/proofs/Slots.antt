@@ -1,19 +1,19 @@
 -- Known meters in their slots: found, changed, added.
 use Prim.Native.Nat.{ℕ, zero, suc, _+_, _≤_, _<_}
-use mathlib.Core.Path.{_≡_, refl, sym, ap, _∙_}
+use mathlib.Core.Path.{_≡_, refl, sym, _∙_}
 use mathlib.Core.Logic.{_≢_}
-use mathlib.Core.Bool.{Bool, true, false, _&&_, _||_, cond, true≢false}
+use mathlib.Core.Bool.{Bool, true, false, _||_, cond}
 use mathlib.Core.List.{List, [], _∷_, _++_}
-use mathlib.Core.Option.{Option, none, some}
+use mathlib.Core.Option.{none, some}
 use native.Mathlib.Omega.{arith}
 use native.Mathlib.Nat.{add-zero, add-suc, suc-add}
 use lib.Dec.{eqb}
 use lib.ListN.{length}
-use borrow.Author.Tests.{eq-eqb, ne-eqb, eqb-true, eqb-false}
+use borrow.Author.Tests.{ne-eqb, eqb-true}
 use Rattle.ledger.specs.Ledger.{Meter, meterWith, changed}
 use Rattle.ledger.specs.Store.{mpanAt, slotFrom}
 use Rattle.ledger.proofs.Lists.{by-cases}
-use Rattle.ledger.proofs.Relation.{SoundMeter, SoundMeters, SlotsFrom, MeterAt, FreeAt, MetersFrom}
+use Rattle.ledger.proofs.Relation.{SoundMeters, SlotsFrom, MetersFrom}
 
 -- the slot of the first meter with an MPAN, counted from i; past the last where there is none
 unfoldable pub positionOf : ℕ → ℕ → List Meter → ℕ

@@ -1,24 +1,22 @@
 -- The sums over slots that a run makes are the sums over the picture's entries.
 use Prim.Native.Nat.{ℕ, zero, suc, _+_, _*_, _≤_, _<_, zero-le}
 use mathlib.Core.Path.{_≡_, refl, sym, ap, _∙_}
-use mathlib.Core.Logic.{_≢_}
 use mathlib.Core.Bool.{Bool, true, false, _&&_, cond}
 use mathlib.Core.List.{List, [], _∷_, _++_}
 use mathlib.Core.Option.{Option, none, some}
 use native.Mathlib.Omega.{arith}
 use native.Mathlib.Nat.{add-zero, zero-add, add-suc, suc-add, add-assoc}
-use lib.Dec.{eqb, leb}
+use lib.Dec.{eqb}
 use lib.ListN.{length}
-use borrow.Author.Tests.{eqb-true}
-use Rattle.metering.specs.Sum.{sumBelow, sumBelow-zero, sumBelow-suc}
-use Rattle.ledger.specs.Method.{Entry, Picture, wattHours, present, total}
-use Rattle.ledger.proofs.Lists.{by-cases, sumBelow-cong, sumBelow-none, sumBelow-plus, sumBelow-one}
+use Rattle.metering.specs.Sum.{sumBelow}
+use Rattle.ledger.specs.Method.{Picture, wattHours, present, total}
+use Rattle.ledger.proofs.Lists.{sumBelow-cong, sumBelow-none, sumBelow-plus, sumBelow-one}
 use Rattle.ledger.specs.Method.{ReadingSet}
 use Rattle.ledger.specs.Checks.{Registration, inForce}
 use Rattle.ledger.specs.Ledger.{Opening, dates, periods, Meter, isHeld, entriesOf, pictureOf}
 use Rattle.ledger.specs.Store.{metersOf, periodsOf, isHeldAt, readingAt, registrationsAt}
-use Rattle.ledger.specs.Calls.{names, countsFor, tally, familyTally}
-use Rattle.ledger.proofs.Relation.{SmallSet, SoundPicture, SettingsAgree, MeterAt, MetersFrom, MetersAgree, HeldAt, HeldFrom, ReadingsAgree}
+use Rattle.ledger.specs.Calls.{names, countsFor, tally}
+use Rattle.ledger.proofs.Relation.{SoundPicture, SettingsAgree, MeterAt, MetersFrom, MetersAgree, HeldAt, HeldFrom, ReadingsAgree}
 
 pub total-append : (measure : Option ℕ → ℕ) (chosen : ℕ → Bool) (a b : Picture) (j : ℕ) → total measure chosen (a ++ b) j ≡ total measure chosen a j + total measure chosen b j
 unfolding total

@@ -1,16 +1,16 @@
 -- What is promised, in the scope paper's words. The proofs are in proofs/Demands.antt and proofs/Agreement.antt.
-use Prim.Native.Nat.{ℕ, zero, suc, _+_, _*_, _/_, _%_, _≤_, _<_}
+use Prim.Native.Nat.{ℕ, _*_, _/_, _%_, _≤_, _<_}
 use mathlib.Core.Path.{_≡_}
 use mathlib.Core.Logic.{_≢_, _↔_, _⊎_}
-use mathlib.Core.Bool.{Bool, true, false}
-use mathlib.Core.List.{List, [], _∷_}
-use mathlib.Core.Option.{Option, none, some}
+use mathlib.Core.Bool.{true, false}
+use mathlib.Core.List.{List}
+use mathlib.Core.Option.{some}
 use lib.ListN.{length}
 use Rattle.metering.specs.Mpan.{mpanValid}
 use Rattle.metering.specs.Calendar.{durationKnown}
-use Rattle.ledger.specs.Method.{Picture, freshIn, Cell, A, D, E, cellFrom, latest}
+use Rattle.ledger.specs.Method.{freshIn, A, D, E, cellFrom, latest}
 use Rattle.ledger.specs.Checks.{Registration, ReceptionCall, endMinute, quality, wattHoursAt}
-use Rattle.ledger.specs.Ledger.{Opening, categories, dates, periods, category, dayType, Ledger, Call, receive, run, readTotals, readCell, Answer, refused, accepted, moved, Lengths, metersShort, anyShort, meterWith, currentOf, cellBy, cellAt, dayOf, isRun, pictureOf, afterRun, movedBetween, ledgerAnswer, ledgerAfter}
+use Rattle.ledger.specs.Ledger.{Opening, categories, dates, periods, category, dayType, Ledger, receive, run, readTotals, readCell, refused, accepted, moved, Lengths, metersShort, anyShort, meterWith, currentOf, cellAt, dayOf, isRun, pictureOf, afterRun, ledgerAnswer}
 
 -- ---- Demand 2, reception: a meter day is accepted exactly when the conditions hold
 

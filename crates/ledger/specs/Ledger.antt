@@ -1,5 +1,5 @@
 -- The plain ledger. It is given the opening, then each call's arguments and the lengths of the parts lent, and works everything out afresh.
-use Prim.Native.Nat.{ℕ, zero, suc, _+_, _*_, _/_}
+use Prim.Native.Nat.{ℕ, suc, _/_}
 use mathlib.Core.Bool.{Bool, true, false, not, _&&_, _||_, cond}
 use mathlib.Core.List.{List, [], _∷_, _++_}
 use mathlib.Core.Option.{Option, none, some}
@@ -7,7 +7,7 @@ use lib.Dec.{leb, ltb, eqb}
 use lib.ListN.{length, getD}
 use Rattle.metering.specs.Sum.{sumBelow}
 use Rattle.metering.specs.Calendar.{periodsPerDay}
-use Rattle.ledger.specs.Method.{Category, categoryAt, ReadingSet, Entry, Picture, freshIn, Cell, Day, notRun, ran, cellOn, movedCell, Totals, totalsOn}
+use Rattle.ledger.specs.Method.{Category, categoryAt, ReadingSet, Picture, freshIn, Cell, Day, notRun, ran, cellOn, movedCell, Totals, totalsOn}
 use Rattle.ledger.specs.Checks.{Registration, RegistrationCall, ReceptionCall, Verdict, verdict, registered, startOf, inForce, registrationCheck, receptionCheck, readingIn, anyBelow, runCheck, readCheck, totalsInRange, cellInRange}
 use Rattle.ledger.specs.Sizes.{settingsLength, metersLength, readingsLength, cellsLength}
 

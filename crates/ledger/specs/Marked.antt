@@ -1,20 +1,19 @@
 -- The scope paper's marked list as one computed check, and its worked example as a computed run of the ledger.
-use Prim.Native.Nat.{ℕ, zero, suc, _+_, _*_}
+use Prim.Native.Nat.{ℕ, zero, suc}
 use mathlib.Core.Path.{_≡_, refl}
-use mathlib.Core.Bool.{Bool, true, false, not, _&&_, cond, Bool·beq}
-use mathlib.Core.List.{List, [], _∷_, _++_}
-use mathlib.Core.Option.{Option, none, some}
-use lib.Dec.{leb, ltb, eqb}
-use lib.ListN.{length}
+use mathlib.Core.Bool.{Bool, true, not, _&&_, Bool·beq}
+use mathlib.Core.List.{List, [], _∷_}
+use mathlib.Core.Option.{some}
+use lib.Dec.{eqb}
 use Rattle.metering.specs.Sum.{sumBelow}
 use Rattle.metering.specs.Mpan.{mpanValid, checkDigit, weightedSum, product, digit, weights}
 use Rattle.metering.specs.Average.{average, annual}
 use Rattle.metering.specs.Range.{between}
 use Rattle.metering.specs.Calendar.{periodsPerDay, periodEnding, liesWithin, windowStart, windowEnd}
-use Rattle.ledger.specs.Method.{Category, categoryAt, isSmart, sameFamily, Entry, Picture, total, Fresh, absent, own, pooled, freshOf, freshIn, Cell, Flag, A, D, E, N, flagNumber, blank, carried, cellFrom, Day, ran, pass, latest, cellOf, cellOn, sameCell, movedCell, Totals, overRunDates, totOn, offOn, peakOn, totalsOn}
-use Rattle.ledger.specs.Checks.{verdict, firstFailed, anyBelow, recordNumber, endMinute, quality, wattHoursAt, startOf, later, inForceAfter, inForce, notAfterLast, registrationInRange, meterNumber, registrationCheck, bodyCheck, inForceCheck, receptionCheck, isReading, readingIn, runCheck, readCheck, totalsInRange, cellInRange}
+use Rattle.ledger.specs.Method.{Category, categoryAt, isSmart, sameFamily, Entry, Picture, total, freshOf, freshIn, Cell, A, D, blank, carried, cellFrom, ran, pass, latest, cellOf, cellOn, sameCell, movedCell, overRunDates, totOn, offOn, peakOn, totalsOn}
+use Rattle.ledger.specs.Checks.{firstFailed, anyBelow, recordNumber, endMinute, quality, wattHoursAt, startOf, later, inForceAfter, inForce, notAfterLast, registrationInRange, meterNumber, registrationCheck, bodyCheck, inForceCheck, receptionCheck, isReading, readingIn, runCheck, readCheck, totalsInRange, cellInRange}
 use Rattle.ledger.specs.Sizes.{settingsLength, metersLength, readingsLength, cellsLength}
-use Rattle.ledger.specs.Ledger.{Opening, Ledger, start, Call, register, receive, run, readTotals, readCell, Answer, refused, accepted, moved, totalsAre, cellIs, answer, left, Lengths, settingsShort, metersShort, cellsShort, anyShort, meterWith, changed, heldFrom, ledgerRegistrationCheck, registerIn, afterRegistration, ledgerReceptionCheck, setOf, at, afterReception, cellBy, cellAt, isRun, ledgerRunCheck, pictureOf, afterRun, movedBetween, ledgerTotalsCheck, ledgerCellCheck, totalsAt, ledgerAnswer, ledgerAfter}
+use Rattle.ledger.specs.Ledger.{Opening, Ledger, start, Call, register, receive, run, readTotals, readCell, Answer, refused, accepted, moved, totalsAre, answer, left, Lengths, settingsShort, metersShort, cellsShort, anyShort, meterWith, changed, heldFrom, ledgerRegistrationCheck, registerIn, afterRegistration, ledgerReceptionCheck, setOf, at, afterReception, cellBy, cellAt, isRun, ledgerRunCheck, pictureOf, afterRun, movedBetween, ledgerTotalsCheck, ledgerCellCheck, totalsAt, ledgerAnswer, ledgerAfter}
 
 -- the test holds of the n periods from 1 on
 unfoldable pub everyPeriod : ℕ → (ℕ → Bool) → Bool

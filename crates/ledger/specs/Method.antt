@@ -1,10 +1,10 @@
 -- METH005 5.3 (source document 000), the Load Shaping Service, as the scope paper condenses it. "House" marks a rule that the paper adds.
 -- Dates count from 0, categories from 0, periods from 1.
 use Prim.Native.Nat.{ℕ, zero, suc, _+_, _-_, _*_}
-use mathlib.Core.Bool.{Bool, true, false, not, _&&_, _||_, cond}
+use mathlib.Core.Bool.{Bool, not, _&&_, cond}
 use mathlib.Core.List.{List, [], _∷_}
 use mathlib.Core.Option.{Option, none, some}
-use lib.Dec.{leb, ltb, eqb}
+use lib.Dec.{leb, eqb}
 use lib.ListN.{getD}
 use Rattle.metering.specs.Sum.{sumBelow}
 use Rattle.metering.specs.Average.{average, annual}

@@ -1,14 +1,14 @@
 -- The store's layout: how each thing is read off the lent parts, whatever lists they are, and how it is written there.
 use Prim.Native.Nat.{ℕ, zero, suc, _+_, _-_, _*_, _/_, _%_}
-use mathlib.Core.Bool.{Bool, true, false, not, _&&_, _||_, cond}
-use mathlib.Core.List.{List, [], _∷_, _++_}
+use mathlib.Core.Bool.{Bool, not, _&&_, _||_, cond}
+use mathlib.Core.List.{List, [], _∷_}
 use mathlib.Core.Option.{Option, none, some}
 use lib.Dec.{leb, ltb, eqb}
-use lib.ListN.{length, getD, set, take, drop}
+use lib.ListN.{length, getD, set, drop}
 use lib.Seq.{sets}
 use Rattle.metering.specs.Range.{metersInRange, categoriesInRange, datesInRange}
 use Rattle.metering.specs.Calendar.{durationKnown, periodsPerDay}
-use Rattle.ledger.specs.Method.{Category, categoryAt, Flag, A, D, E, N, flagNumber, Cell, blank}
+use Rattle.ledger.specs.Method.{Category, categoryAt, Flag, A, D, E, N, flagNumber, Cell}
 use Rattle.ledger.specs.Checks.{Registration}
 use Rattle.ledger.specs.Sizes.{settingsLength, metersLength, readingsLength, cellsLength}
 

@@ -1,0 +1,26 @@
+-- What tests and chains of checks tell.
+use Prim.Native.Nat.{ℕ, suc}
+use mathlib.Core.Path.{_≡_, refl}
+use mathlib.Core.Bool.{Bool, true, false, not, _&&_, _||_, cond, and-eq-true-iff, true≢false}
+use native.Mathlib.Omega.{arith}
+use Rattle.ledger.specs.Checks.{Verdict, verdict}
+
+pub both : (a b : Bool) → (a && b) ≡ true → (a ≡ true) × (b ≡ true)
+both a b h = and-eq-true-iff a b .0 h
+
+pub neither : (a b : Bool) → (a || b) ≡ false → (a ≡ false) × (b ≡ false)
+neither true b e = absurd (true≢false e)
+neither false b e = (refl, e)
+
+pub not-false : (b : Bool) → not b ≡ false → b ≡ true
+not-false true e = refl
+not-false false e = absurd (true≢false e)
+
+-- a check that lets a call pass
+pub passed : (b : Bool) (n rest : ℕ) → cond b (suc n) rest ≡ 0 → (b ≡ false) × (rest ≡ 0)
+passed true n rest e = absurd (omega arith)
+passed false n rest e = (refl, e)
+
+pub passed-verdict : (b : Bool) (n : ℕ) (rest : Verdict) → (cond b (verdict (suc n)) rest) .number ≡ 0 → (b ≡ false) × (rest .number ≡ 0)
+passed-verdict true n rest e = absurd (omega arith)
+passed-verdict false n rest e = (refl, e)
