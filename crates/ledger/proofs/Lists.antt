@@ -92,9 +92,9 @@ sumBelow-le (suc n) f b h =
 
 pub sumBelow-more : (m n : ℕ) (f : ℕ → ℕ) → sumBelow (m + n) f ≡ sumBelow m f + sumBelow n (λ k. f (m + k))
 unfolding sumBelow
-sumBelow-more m zero f = rw (add-zero) (sym (add-zero (sumBelow m f)))
+sumBelow-more m zero f = rw (add-zero m) (sym (add-zero (sumBelow m f)))
 sumBelow-more m (suc n) f =
-    rw (add-suc m n, sumBelow-suc) (let h = sumBelow-more m n f in omega arith)
+    rw (add-suc m n, sumBelow-suc (m + n) f) (let h = sumBelow-more m n f in omega arith)
 
 -- all but one of the terms are nothing
 pub sumBelow-one : (n c : ℕ) (f : ℕ → ℕ) → c < n → sumBelow n (λ k. cond (eqb k c) (f k) 0) ≡ f c

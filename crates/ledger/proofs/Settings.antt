@@ -153,8 +153,8 @@ module _ (o : Opening) (s : List ℕ) (n : ℕ) (v : Valid o) (a : SettingsAgree
   pub meters-unready : (m r : List ℕ) (k : ℕ) → metersUnready (take n s) m r ≡ metersShort o (record { settings = length (take n s); meters = length m; readings = length r; cells = k })
   unfolding metersUnready metersShort settingsShort
   meters-unready m r k =
-      rw (not-and (settingsReady (take n s) && metersReady (take n s) m) (readingsReady (take n s) r), not-and (settingsReady (take n s)) (metersReady (take n s) m), or-assoc, or-assoc)
-      (guard _ _ (λ l. rw (meters-part m l, readings-part r l)))
+      rw (not-and (settingsReady (take n s) && metersReady (take n s) m) (readingsReady (take n s) r), not-and (settingsReady (take n s)) (metersReady (take n s) m))
+      (simp or-assoc (guard _ _ (λ l. rw (meters-part m l, readings-part r l))))
 
   pub cells-unready : (x : List ℕ) (i k : ℕ) → cellsUnready (take n s) x ≡ cellsShort o (record { settings = length (take n s); meters = i; readings = k; cells = length x })
   unfolding cellsUnready cellsShort settingsShort
