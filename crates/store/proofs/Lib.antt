@@ -1,0 +1,2 @@
+-- Laws that the store's proofs share.
+pub mod Laws

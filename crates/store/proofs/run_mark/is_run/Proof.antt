@@ -1,0 +1,21 @@
+-- `store::run_mark::is_run` meets its contract. Assumes nothing.
+use borrow.Author.Needs.{needs}
+use Rattle.ledger.specs.Store.{isRunAt}
+use Rattle.store.proofs.run_mark.is_run.Statement.{statement}
+use Rattle.store.proofs.run_mark.is_run.Tie as tie
+
+mul-entry-at : tie.Need-mul-entry-at
+mul-entry-at c = search needs
+
+entry-at-requires : tie.Need-entry-at-requires
+entry-at-requires c κs = search needs
+
+flag-number-requires : tie.Need-flag-number-requires
+flag-number-requires c κs = search needs
+
+returns : tie.Need-returns
+unfolding isRunAt
+returns c = rw (c .flag-number .ensures, c .before .entry-at .ensures)
+
+pub is-run-spec : {M : Type 1} → statement M
+is-run-spec = tie.close (tie.spec mul-entry-at entry-at-requires flag-number-requires returns)

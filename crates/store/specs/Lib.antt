@@ -1,0 +1,6 @@
+-- What the store's leaves say beyond the ledger crate's definitions.
+pub mod Access
+pub mod Bounds
+pub mod Cell
+pub mod Entry
+pub mod Meters

@@ -1,0 +1,72 @@
+// A kept category record's fields, and the day types.
+use crate::access::byte_at;
+use crate::settings::category_count;
+ghost use mathlib.Core.Path.{_≡_};
+ghost use mathlib.Core.Bool.{true};
+ghost use Prim.Native.Nat.{_+_, _*_, _<_};
+ghost use lib.ListN.{drop};
+ghost use Rattle.store.specs.Access.{Byte};
+ghost use Rattle.ledger.specs.Method.{isSmart, sameFamily};
+ghost use Rattle.ledger.specs.Store.{categoriesOf, datesOf, categoryOf, dayTypeOf, settingsReady};
+
+fn category_byte(settings: &[u8], category: u64, k: u64) -> u64
+    requires { ⌜ (settingsReady (now settings) ≡ true) × (category < categoriesOf (now settings)) × (k < 8) ⌝ }
+    ensures { λ r. ⌜ Byte (drop 8 (now (settings .entry))) (8 * category + k) r ⌝ }
+{
+    byte_at(settings, 8 + (8 * category + k))
+}
+
+pub fn is_smart(settings: &[u8], category: u64) -> bool
+    requires { ⌜ (settingsReady (now settings) ≡ true) × (category < categoriesOf (now settings)) ⌝ }
+    ensures { λ r. ⌜ r ≡ isSmart (categoryOf (now (settings .entry)) category) ⌝ }
+{
+    category_byte(settings, category, 0) == 1
+}
+
+pub fn quantity(settings: &[u8], category: u64) -> u64
+    requires { ⌜ (settingsReady (now settings) ≡ true) × (category < categoriesOf (now settings)) ⌝ }
+    ensures { λ r. ⌜ r ≡ categoryOf (now (settings .entry)) category .quantity ⌝ }
+{
+    category_byte(settings, category, 3)
+}
+
+pub fn window(settings: &[u8], category: u64) -> u64
+    requires { ⌜ (settingsReady (now settings) ≡ true) × (category < categoriesOf (now settings)) ⌝ }
+    ensures { λ r. ⌜ r ≡ categoryOf (now (settings .entry)) category .window ⌝ }
+{
+    category_byte(settings, category, 5)
+}
+
+pub fn de_minimis(settings: &[u8], category: u64) -> u64
+    requires { ⌜ (settingsReady (now settings) ≡ true) × (category < categoriesOf (now settings)) ⌝ }
+    ensures { λ r. ⌜ r ≡ categoryOf (now (settings .entry)) category .deMinimis ⌝ }
+{
+    256 * category_byte(settings, category, 6) + category_byte(settings, category, 7)
+}
+
+// Smart categories alike in domestic, quantity and connection.
+pub fn same_family(settings: &[u8], a: u64, b: u64) -> bool
+    requires { ⌜ (settingsReady (now settings) ≡ true) × (a < categoriesOf (now settings)) × (b < categoriesOf (now settings)) ⌝ }
+    ensures { λ r. ⌜ r ≡ sameFamily (categoryOf (now (settings .entry)) a) (categoryOf (now (settings .entry)) b) ⌝ }
+{
+    if !is_smart(settings, a) {
+        return false;
+    }
+    if !is_smart(settings, b) {
+        return false;
+    }
+    if category_byte(settings, a, 2) != category_byte(settings, b, 2) {
+        return false;
+    }
+    if category_byte(settings, a, 3) != category_byte(settings, b, 3) {
+        return false;
+    }
+    category_byte(settings, a, 4) == category_byte(settings, b, 4)
+}
+
+pub fn day_type(settings: &[u8], date: u64) -> u64
+    requires { ⌜ (settingsReady (now settings) ≡ true) × (date < datesOf (now settings)) ⌝ }
+    ensures { λ r. ⌜ r ≡ dayTypeOf (now (settings .entry)) date ⌝ }
+{
+    byte_at(settings, 8 + 8 * category_count(settings) + date)
+}

@@ -1,0 +1,9 @@
+// The lent parts of the store: the only code that knows how an entry is encoded.
+pub mod access;
+pub mod category;
+pub mod cell;
+pub mod entry;
+pub mod meters;
+pub mod readings;
+pub mod run_mark;
+pub mod settings;
