@@ -102,9 +102,6 @@ accepted-left v before after e = rw e
 -- ---- one call, lent parts cut to n
 
 module _ (p : Parts) (l : Ledger) (agrees : Agrees (lengthsOf p) p l) (n : Lengths) where
-  lent : Parts
-  lent = cut n p
-
   lengths-lent : cutLengths n (lengthsOf p) ≡ lengthsOf (cut n p)
   unfolding cutLengths cut
   lengths-lent =
@@ -156,9 +153,6 @@ module _ (p : Parts) (l : Ledger) (agrees : Agrees (lengthsOf p) p l) (n : Lengt
       (λ q.
       let e = enough-meters q in
       rw q (ap verdict (register-step.registration-check l (cut n p .settings) (cut n p .meters) (cut n p .readings) (e .0) (e .1) (e .2) (agrees .sound) a))))
-
-  item : Call → Item
-  item c = record { lent = n; call = c }
 
   -- a call that answers alike and leaves what agrees
   record Step (c : Call) : Type 0 where

@@ -1,5 +1,5 @@
 -- Laws of lists and sums that the proof of agreement and the code's proofs cite.
-use Prim.Native.Nat.{ℕ, zero, suc, _+_, _*_, _/_, _≤_, _<_, zero-le}
+use Prim.Native.Nat.{ℕ, zero, suc, _+_, _*_, _/_, _≤_, _<_}
 use mathlib.Core.Path.{_≡_, refl, sym, ap, _∙_}
 use mathlib.Core.Logic.{_≢_, ⊎-elim}
 use mathlib.Core.Bool.{cond}
@@ -81,14 +81,6 @@ pub sumBelow-plus : (n : ℕ) (f g : ℕ → ℕ) → sumBelow n (λ k. f k + g 
 unfolding sumBelow
 sumBelow-plus zero f g = refl
 sumBelow-plus (suc n) f g = let h = sumBelow-plus n f g in omega arith
-
-pub sumBelow-le : (n : ℕ) (f : ℕ → ℕ) (b : ℕ) → ((k : ℕ) → k < n → f k ≤ b) → sumBelow n f ≤ n * b
-unfolding sumBelow
-sumBelow-le zero f b h = zero-le
-sumBelow-le (suc n) f b h =
-    let p = sumBelow-le n f b (λ k l. h k (omega arith)) in
-    let q = h n (omega arith) in
-    omega arith
 
 pub sumBelow-more : (m n : ℕ) (f : ℕ → ℕ) → sumBelow (m + n) f ≡ sumBelow m f + sumBelow n (λ k. f (m + k))
 unfolding sumBelow
