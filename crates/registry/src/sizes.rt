@@ -1,0 +1,25 @@
+// The least lengths of the parts that an opening empties.
+ghost use mathlib.Core.Path.{_≡_};
+ghost use Prim.Native.Nat.{_≤_};
+ghost use Rattle.ledger.specs.Sizes.{metersLength, readingsLength, cellsLength};
+
+pub fn meters_length(meters: u64) -> u64
+    requires { ⌜ meters ≤ 1024 ⌝ }
+    ensures { λ r. ⌜ r ≡ metersLength meters ⌝ }
+{
+    meters + 40 * meters
+}
+
+pub fn readings_length(meters: u64, dates: u64, periods: u64) -> u64
+    requires { ⌜ (meters ≤ 1024) × (dates ≤ 800) × (periods ≤ 96) ⌝ }
+    ensures { λ r. ⌜ r ≡ readingsLength meters dates periods ⌝ }
+{
+    dates * meters * (1 + periods)
+}
+
+pub fn cells_length(categories: u64, dates: u64, periods: u64) -> u64
+    requires { ⌜ (categories ≤ 64) × (dates ≤ 800) × (periods ≤ 96) ⌝ }
+    ensures { λ r. ⌜ r ≡ cellsLength categories dates periods ⌝ }
+{
+    dates * (categories * periods)
+}

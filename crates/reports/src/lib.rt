@@ -1,0 +1,66 @@
+// The two reads: a cell, and the totals of a date and category. Both only look at the lent settings and cells.
+use crate::checks::cell_check;
+use crate::checks::totals_check;
+use crate::column::cell_at;
+use crate::figures::totals_of;
+use store::cell::Cell;
+ghost use mathlib.Core.Path.{_≡_};
+ghost use Rattle.ledger.specs.Ledger.{answer, cellIs, totalsAre};
+ghost use Rattle.ledger.specs.Calls.{cellVerdict, cellFor, totalsVerdict, totalsFor};
+ghost use Rattle.reports.specs.Answer.{cellAnswer, totalsAnswer};
+
+mod checks;
+mod column;
+mod dates;
+mod figures;
+mod periods;
+
+pub enum CellOutcome {
+    Cell(Cell),
+    Refused { number: u64, place: u64 },
+}
+
+pub struct Totals {
+    pub tot: u64,
+    pub off: u64,
+    pub peak: u64,
+    pub tot7: u64,
+    pub off7: u64,
+    pub peak7: u64,
+    pub days7: u64,
+    pub ann: u64,
+    pub days: u64,
+    pub fresh: u64,
+    pub blanks: u64,
+}
+
+pub enum TotalsOutcome {
+    Totals(Totals),
+    Refused { number: u64, place: u64 },
+}
+
+pub fn read_cell(
+    settings: &[u8],
+    cells: &[u64],
+    date: u64,
+    category: u64,
+    period: u64,
+) -> CellOutcome
+    ensures { λ r. ⌜ cellAnswer r ≡ answer (cellVerdict (now (settings .entry)) (now (cells .entry)) date category period) (cellIs (cellFor (now (settings .entry)) (now (cells .entry)) date category period)) ⌝ }
+{
+    let number = cell_check(settings, cells, date, category, period);
+    if number != 0 {
+        return CellOutcome::Refused { number, place: 0 };
+    }
+    CellOutcome::Cell(cell_at(settings, cells, date, category, period))
+}
+
+pub fn read_totals(settings: &[u8], cells: &[u64], date: u64, category: u64) -> TotalsOutcome
+    ensures { λ r. ⌜ totalsAnswer r ≡ answer (totalsVerdict (now (settings .entry)) (now (cells .entry)) date category) (totalsAre (totalsFor (now (settings .entry)) (now (cells .entry)) date category)) ⌝ }
+{
+    let number = totals_check(settings, cells, date, category);
+    if number != 0 {
+        return TotalsOutcome::Refused { number, place: 0 };
+    }
+    TotalsOutcome::Totals(totals_of(settings, cells, date, category))
+}

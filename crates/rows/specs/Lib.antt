@@ -1,0 +1,2 @@
+-- What the row functions say beyond the ledger crate's definitions.
+pub mod Rows

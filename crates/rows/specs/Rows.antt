@@ -1,0 +1,56 @@
+-- Rows while they are filled, and a category's entry from sums and counts.
+use Prim.Native.Nat.{ℕ, _+_, _*_, _≤_}
+use mathlib.Core.Bool.{Bool, _&&_, cond}
+use mathlib.Core.List.{List, _++_}
+use mathlib.Core.Option.{Option}
+use lib.Dec.{leb, eqb}
+use lib.ListN.{getD, drop}
+use Rattle.metering.specs.Average.{average}
+use Rattle.ledger.specs.Method.{Fresh, absent, own, pooled}
+use Rattle.ledger.specs.Store.{readingOf}
+use Rattle.ledger.specs.Table.{tabulate}
+use Rattle.ledger.specs.Calls.{carriedEntry, isOwn, rowEntry}
+
+-- the first k places have f's values, the others stand
+unfoldable pub filling : ℕ → (ℕ → ℕ) → List ℕ → List ℕ
+filling k f xs = tabulate k f ++ drop k xs
+
+-- place p of a row with the readings that start at `first` added to it
+abbrev pub setAdded : (Option ℕ → ℕ) → List ℕ → ℕ → List ℕ → ℕ → ℕ
+setAdded measure readings first xs p = getD xs p 0 + measure (readingOf (getD readings (first + p) 0))
+
+-- the same with the stretch of `rows` that starts at `at`
+abbrev pub rowAdded : List ℕ → ℕ → List ℕ → ℕ → ℕ
+rowAdded rows at xs p = getD xs p 0 + getD rows (at + p) 0
+
+-- at least one reading, and as many as de-minimis asks
+unfoldable pub isEnough : ℕ → ℕ → Bool
+isEnough count m = leb 1 count && leb m count
+
+-- the ledger's `freshOf`, by the two things that it asks of a category
+unfoldable pub freshBy : Bool → ℕ → ℕ → ℕ → ℕ → ℕ → Fresh
+freshBy smart m s n S K =
+    cond (isEnough n m) (own (average s n) n) (cond (smart && isEnough K m) (pooled (average S K) K) absent)
+
+-- the entry at place p of a category's row, whose stretch starts at `at`
+abbrev pub shapeAt : Bool → ℕ → ℕ → List ℕ → List ℕ → List ℕ → ℕ → List ℕ → List ℕ → ℕ → ℕ
+shapeAt smart m date sums counts over at familySums familyCounts p =
+    rowEntry date
+    (freshBy smart m (getD sums (at + p) 0) (getD counts (at + p) 0) (getD familySums p 0) (getD familyCounts p 0))
+    (getD over (at + p) 0)
+
+-- a sum and count of readings, whose average has 32 bits
+pub record Averaged (s n : ℕ) : Type 0 where
+  pub sum : s ≤ n * 4294967295
+  pub count : n ≤ 65536
+
+-- 1 where two entries differ
+unfoldable pub differenceOf : ℕ → ℕ → ℕ
+differenceOf a b = cond (eqb a b) 0 1
+
+-- a later date's cell, and what the date after it takes over, from its entry and what it would take over itself
+unfoldable pub followedEntry : ℕ → ℕ → ℕ
+followedEntry old over = cond (isOwn old) old over
+
+unfoldable pub overBeyond : ℕ → ℕ → ℕ
+overBeyond old over = cond (isOwn old) (carriedEntry old) over

@@ -1,0 +1,8 @@
+-- The run's answer, as the ledger says it.
+use Rattle.ledger.specs.Ledger.{Answer, moved, refused}
+use Rattle.shapes.specs.declared.RunOutcome.{RunOutcome}
+use Rattle.shapes.specs.declared.RunOutcome.the-variants.{Moved, Refused}
+
+abbrev pub answerOf : RunOutcome → Answer
+answerOf (Moved m) = moved m
+answerOf (Refused n p) = refused n p

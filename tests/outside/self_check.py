@@ -1,0 +1,314 @@
+"""Checks of the outside calculation itself.
+
+    python3 self_check.py
+
+First hand-made inputs for the forms of commands. Then a second, slower
+calculation: each cell straight from the list of accepted calls by the rules in
+the order the paper gives them, moved by comparing every cell of every date,
+totals by minutes and fractions. Then known slips: the ledger's text is changed
+in one place, and some stream must hear the difference.
+"""
+
+import sys
+from fractions import Fraction
+from functools import lru_cache
+from math import floor
+from pathlib import Path
+from types import ModuleType
+
+import ledger
+import program
+from streams import stream
+
+
+class Doubled(ledger.Ledger):
+    """A ledger that works out each answer a second time, from its accepted calls."""
+
+    checked = 0
+
+    def __init__(self, *opening):
+        super().__init__(*opening)
+        self.calls = []
+        self.readings = lru_cache(None)(self.readings)
+
+    def note(self, answer, *call):
+        if answer[0] == 'ok':
+            self.calls.append(call)
+        return answer
+
+    def registration(self, mpan, date, minute, category, *rest):
+        return self.note(super().registration(mpan, date, minute, category, *rest),
+                         'registration', mpan, date + (minute > 0), category)
+
+    def reception(self, sender, mpan, date, duration, quantity, body):
+        return self.note(super().reception(sender, mpan, date, duration, quantity, body),
+                         'reception', mpan, date, bytes(body))
+
+    def last_run(self, calls, date):
+        """The place after the last run of the date among the first so many calls."""
+        return max((place for place, call in enumerate(self.calls[:calls], 1)
+                    if call == ('run', date)), default=None)
+
+    def readings(self, calls, date):
+        """(category, period, Wh) of what was held on the date after so many calls."""
+        category, held = {}, {}
+        for kind, *call in self.calls[:calls]:
+            if kind == 'registration' and call[1] <= date:
+                category[call[0]] = call[2]
+            elif kind == 'reception' and call[1] == date:
+                held[call[0]] = call[2]
+        return [(category[mpan], int.from_bytes(body[at:at + 2], 'big') // self.duration,
+                 int.from_bytes(body[at + 3:at + 7], 'big'))
+                for mpan, body in held.items()
+                for at in range(0, len(body), 7) if 1 <= body[at + 2] <= 7]
+
+    def all_cells(self, calls):
+        """(date, category, period) -> cell after so many calls, dates not run included."""
+        cells = {}
+        for date in range(self.dates):
+            run = self.last_run(calls, date)
+            earlier = [d for d in range(date) if self.day_types[d] == self.day_types[date]
+                       and self.last_run(calls, d) is not None]
+            for number, category in enumerate(self.categories):
+                for period in range(1, self.periods + 1):
+                    key = date, number, period
+                    if run is None:
+                        cells[key] = 'N', 0, 0, 65535
+                        continue
+                    here = [(c, wh) for c, p, wh in self.readings(run, date) if p == period]
+                    own = [wh for c, wh in here if c == number]
+                    alike = [wh for c, wh in here
+                             if self.categories[c].segment == category.segment == 1
+                             and self.categories[c][2:5] == category[2:5]]
+                    if len(own) >= 1 and len(own) >= category.de_minimis:
+                        cells[key] = 'A', average(own), len(own), date
+                    elif len(alike) >= 1 and len(alike) >= category.de_minimis:
+                        cells[key] = 'D', average(alike), len(alike), date
+                    elif earlier and cells[earlier[-1], number, period][0] != 'N':
+                        cells[key] = 'E', *cells[earlier[-1], number, period][1:]
+                    else:
+                        cells[key] = 'N', 0, 0, 65535
+        return cells
+
+    def run(self, date):
+        answer = super().run(date)
+        if answer[0] == 'ok':
+            before = self.all_cells(len(self.calls))
+            self.calls.append(('run', date))
+            after = self.all_cells(len(self.calls))
+            assert answer[1] == sum(before[key] != after[key] for key in after)
+            Doubled.checked += 1
+        return answer
+
+    def cell(self, *place):
+        answer = super().cell(*place)
+        if answer[0] == 'ok':
+            assert answer[1:] == self.all_cells(len(self.calls))[place]
+            Doubled.checked += 1
+        return answer
+
+    def totals(self, date, category):
+        answer = super().totals(date, category)
+        if answer[0] != 'ok':
+            return answer
+        cells = self.all_cells(len(self.calls))
+        window = self.categories[category].window
+        off_minutes = {0: range(0), 1: range(0, 7 * 60), 2: range(30, 7 * 60 + 30)}[window]
+        tot = off = tot7 = off7 = year = days7 = days = 0
+        for d in range(self.dates):
+            if d > date or date - d >= 365 or self.last_run(len(self.calls), d) is None:
+                continue
+            days += 1
+            days7 += date - d < 7
+            for period in range(1, self.periods + 1):
+                minutes = range((period - 1) * self.duration, period * self.duration)
+                value = cells[d, category, period][1]
+                value_off = value if all(minute in off_minutes for minute in minutes) else 0
+                year += value
+                if date - d < 7:
+                    tot7 += value
+                    off7 += value_off
+                if d == date:
+                    tot += value
+                    off += value_off
+        peak, peak7 = (tot - off, tot7 - off7) if window else (0, 0)
+        flags = [cells[date, category, period][0] for period in range(1, self.periods + 1)]
+        assert answer[1:] == (tot, off, peak, tot7, off7, peak7, days7,
+                              half_up(Fraction(year * 365, days)), days,
+                              sum(flag in 'AD' for flag in flags), flags.count('N'))
+        Doubled.checked += 1
+        return answer
+
+
+def half_up(fraction):
+    return floor(fraction + Fraction(1, 2))
+
+
+def average(readings):
+    return half_up(Fraction(sum(readings), len(readings)))
+
+
+class Doubling(program.Program):
+    """The command program on the doubled ledger."""
+
+    def open(self, *operands):
+        answer = super().open(*operands)
+        if answer == ('ok',):
+            plain = self.ledger
+            self.ledger = Doubled(plain.duration, plain.meters, plain.categories, plain.day_types)
+        return answer
+
+    def ask(self, call, *operands):        # by name, so that the doubled call is taken
+        if self.ledger is None:
+            return super().ask(call)
+        return getattr(self.ledger, call.__name__)(*operands)
+
+
+def check_twice(streams, commands):
+    for seed in range(streams):
+        list(Doubling(stream(seed, 'small', commands), program.PROFILES['small']).answers())
+    return Doubled.checked
+
+
+# Input in hex and the output it must have; D is a good category, M a good MPAN.
+D, M = '11 0101010101010000', '000000E8D4A51003'
+OPEN = f'{D} 1201 1201 10 1E 0001'
+FORMS = [
+    ('', ''),
+    ('FF', 'bad'),
+    ('0F', 'bad'),
+    ('19', 'bad'),
+    ('16 0000', '16 no 1 0'),
+    ('16 00', 'bad'),
+    ('16', 'bad'),
+    ('10 1E 0001', '10 no 3 0'),
+    ('15 001E 01 00000001', 'bad'),
+    (D * 3 + '11', 'bad'),
+    ('1201' * 8 + '12', 'bad'),
+    ('11 01', 'bad'),
+    # What is collected goes with the opening, refused or not.
+    (D * 3 + '10 1E 0001' + D * 3 + '10 1E 0001', '10 no 3 0|10 no 3 0'),
+    (D + '1201 10 1F 0001 10 1E 0001', '10 no 3 0|10 no 3 0'),
+    # The parts hold 4 meters and 384 date-periods; short parts come last.
+    (D + '1201' * 8 + '10 1E 0004', '10 ok'),
+    (D + '1201' * 4 + '10 0F 0004', '10 ok'),
+    (D + '1201' * 5 + '10 0F 0004', '10 no 1 0'),
+    (D + '1201 10 1E 0005', '10 no 1 0'),
+    (D + '1201 10 1E 0400', '10 no 1 0'),
+    (D + '1201 10 1E 0401', '10 no 3 0'),
+    (D + '1201 10 1E 0000', '10 no 3 0'),
+    (D * 2 + '1200 10 1E 0005', '10 no 4 2'),
+    (D + '1201 1211 10 1E 0005', '10 no 5 2'),
+    # A category refused for its key, before a bad one further on.
+    (D * 2 + '11 0301010101010000 1201 10 1E 0001', '10 no 4 2'),
+    # A 14 is answered once, after its 15s, whatever becomes of it.
+    (f'14 0007 {M} 0000 1E 01 00', '14 no 1 0'),
+    (f'14 0007 {M} 0000 1E 01 01 15 001E 01 00000001', '14 no 1 0'),
+    (f'14 0007 {M} 0000 1E 01 01', 'bad'),
+    (f'14 0007 {M} 0000 1E 01 01 16 0000', 'bad'),
+    (f'14 0007 {M} 0000 1E 01 01 15 001E 01 000000', 'bad'),
+    (f'14 0007 {M} 0000 1E 01 02 15 001E 01 00000001 1201', 'bad'),
+    # A refused opening leaves the store in use, an accepted one empties it.
+    (OPEN + '160000 10 1E 0001 170000 00',
+     '10 ok|16 ok 0|10 no 3 0|17 ok 0.000 0.000 0.000 0.000 0.000 0.000 1 0.000 1 0 48'),
+    (OPEN + '160000' + OPEN + '170000 00', '10 ok|16 ok 0|10 ok|17 no 14 0'),
+    (OPEN + '160000 180000 00 01 180000 00 00 180000 00 31 180001 00 01 180002 01 00',
+     '10 ok|16 ok 0|18 ok N 0.000 0 -|18 no 15 0|18 no 15 0|18 no 14 0|18 no 9 0'),
+    # Starts: minute 5 of date 0 and minute 0 of date 1 are one; date T-1 has none later.
+    (OPEN + f'13 {M} 0000 0005 00 0007 01 00002710 13 {M} 0001 0000 00 0007 01 00002710'
+     f'13 {M} 0001 0001 00 0007 01 00002710 14 0007 {M} 0000 1E 01 00',
+     '10 ok|13 ok|13 no 10 0|13 no 16 0|14 no 7 0'),
+    # An empty set on a date never run counts for 11.
+    (OPEN + f'13 {M} 0000 0000 00 0007 01 00002710 14 0007 {M} 0001 1E 01 00'
+     f'13 {M} 0001 0000 00 0007 01 00002710', '10 ok|13 ok|14 ok|13 no 11 0'),
+    # A disconnected meter may send nothing but an empty set.
+    (OPEN + f'13 {M} 0000 0000 00 0007 03 00002710 14 0007 {M} 0000 1E 01 00'
+     f'14 0007 {M} 0000 1E 01 01 15 001E 01 00000000', '10 ok|13 ok|14 ok|14 no 1009 1'),
+    # At the limit is allowed; each record goes through all its checks before the next.
+    (OPEN + f'13 {M} 0000 0000 00 0007 01 00000005 14 0007 {M} 0000 1E 01 01 15 001E 01 00000005'
+     f'14 0007 {M} 0000 1E 01 02 15 001E 0E 00000006 15 001F 00 00000000',
+     '10 ok|13 ok|14 ok|14 no 1012 1'),
+]
+
+
+# Name, the ledger's text, and what a slip makes of it.
+SLIPS = [
+    ('averages regional averages', 'wh) >= least:\n                        row[period - 1] = '
+     'Cell(flag, rounded(sum(wh), len(wh)), len(wh), date)',
+     'wh) >= least:\n                        means = wh if flag == "A" else '
+     '[rounded(sum(r[period]), len(r[period])) for c, r in own.items() if period in r '
+     'and self.categories[c].family == category.family]\n'
+     '                        row[period - 1] = '
+     'Cell(flag, rounded(sum(means), len(means)), len(wh), date)'),
+    ('dates a copied cell by its copy', 'copied(earlier[number])',
+     '[c if c.flag == "N" else Cell("E", c.value, c.count, date) for c in earlier[number]]'),
+    ('merges a new set with the old', '[date] = readings',
+     '[date] = {**self.held.get(mpan, {}).get(date, {}), **readings}'),
+    ('leaves later copies after a rerun', 'self.cells = self.worked_out()',
+     'self.cells = {**before, date: self.worked_out()[date]}'),
+    ('passes over reruns', '        before = self.cells\n',
+     '        before = self.cells\n        if date in self.pictures: return "ok", 0\n'),
+    ('counts moved on the one date only', 'for date in before.keys() | after.keys()',
+     'for date in [max(after, key=lambda d: after[d] != before.get(d))]'),
+    ('takes the present sets when another date is run', '        self.cells = self.worked_out()',
+     '        for d in self.pictures: self.pictures[d] = [(self.in_force(m, d).category, s[d]) '
+     'for m, s in self.held.items() if d in s]\n        self.cells = self.worked_out()'),
+    ('copies from the latest run, not the nearest earlier date', 'in sorted(self.pictures)',
+     'in self.pictures'),
+    ('rounds halves down', '(2 * total + count) // (2 * count)',
+     '(2 * total + count - 1) // (2 * count)'),
+    ('takes ZE for a zero reading', 'if quality <= 7:', 'if quality <= 7 or 10 <= quality <= 13:'),
+    ('puts Advanced into a Smart family', 'return None\n\n    def good',
+     'return 1, self.quantity, self.connection\n\n    def good'),
+    ('puts domestic and other into one family', 'return self.domestic, self', 'return 1, self'),
+    ('puts import and export into one family', 'domestic, self.quantity', 'domestic, 1'),
+    ('puts all connections into one family', 'quantity, self.connection\n', 'quantity, 1\n'),
+    ('leaves the own readings out of the family', "len(wh) >= least:",
+     "len(wh) >= least and not (flag == 'D' and number in own and period in own[number]):"),
+    ('carries N as E', "cell.flag in 'EN'", "cell.flag in 'E'"),
+    ('gives PEAK without a window', 'if window else 0', ''),
+    ('counts seven run dates, not calendar dates', 'run_dates(7)', 'run_dates(365)[-7:]'),
+]
+
+
+def changed_program(old, new):
+    """The command program on the ledger with one place of its text changed."""
+    here = Path(__file__).parent
+    text = (here / 'ledger.py').read_text()
+    assert text.count(old) == 1, old
+    modules = {name: ModuleType(name) for name in ('ledger', 'program')}
+    exec(text.replace(old, new), modules['ledger'].__dict__)
+    kept = sys.modules['ledger']
+    sys.modules['ledger'] = modules['ledger']
+    try:
+        exec((here / 'program.py').read_text(), modules['program'].__dict__)
+    finally:
+        sys.modules['ledger'] = kept
+    return modules['program']
+
+
+def main():
+    for given, output in FORMS:
+        heard = program.run(bytes.fromhex(given))
+        assert heard == ''.join(line + '\n' for line in output.split('|') if line), (given, heard)
+    print(len(FORMS), 'hand-made inputs answered as they must be')
+    print(check_twice(20, 80), 'answers worked out twice and alike')
+    most = 200
+    streams = [stream(seed) for seed in range(most)]
+    expected = [None] * most
+    for name, old, new in SLIPS:
+        slipping = changed_program(old, new)
+        for seed in range(most):
+            if expected[seed] is None:
+                expected[seed] = program.run(streams[seed])
+            if slipping.run(streams[seed]) != expected[seed]:
+                print(f'{name}: heard in stream {seed + 1}')
+                break
+        else:
+            print(f'{name}: not heard in {most} streams')
+            return 1
+    return 0
+
+
+if __name__ == '__main__':
+    sys.exit(main())

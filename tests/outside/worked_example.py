@@ -1,0 +1,85 @@
+"""The paper's worked example and its marked list, on the plain ledger.
+
+    python3 worked_example.py
+"""
+
+from ledger import mpan_good, opening, period_ending, rounded, window_periods
+from program import run
+
+INPUT = bytes.fromhex('''
+1201 1201 110101010101010001 101E0001 13 000000E8D4A51003 0000 0000 00 0007 01 00002710
+14 0007 000000E8D4A51003 0000 1E 01 02 15001E01000001F4 1501E001000000FA
+160000 160001 17000100 18000001 03''')
+
+OUTPUT = '''\
+10 ok
+13 ok
+14 ok
+16 ok 2
+16 ok 2
+17 ok 0.750 0.500 0.250 1.500 1.000 0.500 2 273.750 2 0 46
+18 no 15 0
+'''
+
+
+def reading(end, wh, quality=1):
+    return end.to_bytes(2, 'big') + bytes([quality]) + wh.to_bytes(4, 'big')
+
+
+def store(*categories, dates=1, meters=4):
+    ledger = opening(30, meters, b''.join(map(bytes, categories)), [1] * dates)
+    assert not isinstance(ledger, tuple), ledger
+    return ledger
+
+
+def marked_list():
+    # MPANs, here and as the calls hear them.
+    assert mpan_good(1000000000003) and not mpan_good(1000000000004)
+    assert mpan_good(1010000000000) and not mpan_good(0)
+    plain = (1, 1, 1, 1, 1, 0, 0, 0)
+    ledger = store(plain)
+    for mpan, heard in ((1000000000003, ('ok',)), (1000000000004, ('no', 6, 0)),
+                        (1010000000000, ('ok',)), (0, ('no', 6, 0))):
+        assert ledger.registration(mpan, 0, 0, 0, 7, 1, 10000) == heard
+
+    # Halves up, and below a half down.
+    assert rounded(5, 2) == 3 and rounded(4, 3) == 1
+
+    # Ends at 30 minutes.
+    assert period_ending(0, 30) is None and period_ending(1440, 30) == 48
+    receive = lambda body: ledger.reception(7, 1000000000003, 0, 30, 1, body)
+    assert receive(reading(0, 5)) == ('no', 1005, 1)
+    assert receive(reading(1440, 5)) == ('ok',)
+    assert ledger.run(0) == ('ok', 1)
+    assert ledger.cell(0, 0, 48) == ('ok', 'A', 5, 1, 0)
+
+    # Window 2.
+    assert window_periods(2, 30) == list(range(2, 16))
+    assert window_periods(2, 15) == list(range(3, 31))
+
+    # De-minimis 0 without readings and predecessor.
+    ledger = store(plain)
+    assert ledger.run(0) == ('ok', 0)
+    assert ledger.cell(0, 0, 1) == ('ok', 'N', 0, 0, 65535)
+
+    # Group A has 100, group B 200 and 600, de-minimis 3: 300, not 250.
+    ledger = store((1, 1, 1, 1, 1, 0, 0, 3), (1, 2, 1, 1, 1, 0, 0, 3))
+    for mpan, category, wh in ((1000000000003, 0, 100), (1010000000000, 1, 200), (10, 1, 600)):
+        assert ledger.registration(mpan, 0, 0, category, 7, 1, 10000) == ('ok',)
+        assert ledger.reception(7, mpan, 0, 30, 1, reading(30, wh)) == ('ok',)
+    assert ledger.run(0) == ('ok', 2)
+    assert ledger.cell(0, 0, 1) == ledger.cell(0, 1, 1) == ('ok', 'D', 300, 3, 0)
+
+    # ANN of sum 1,000 over 3 days: one reading of 1,000, then two dates without a copy.
+    assert rounded(1000 * 365, 3) == 121667
+    ledger = opening(30, 1, bytes(plain), [3, 2, 1])
+    assert ledger.registration(1000000000003, 0, 0, 0, 7, 1, 10000) == ('ok',)
+    assert ledger.reception(7, 1000000000003, 0, 30, 1, reading(30, 1000)) == ('ok',)
+    assert [ledger.run(date) for date in range(3)] == [('ok', 1), ('ok', 0), ('ok', 0)]
+    assert ledger.totals(2, 0) == ('ok', 0, 0, 0, 1000, 0, 0, 3, 121667, 3, 0, 48)
+
+
+if __name__ == '__main__':
+    assert run(INPUT) == OUTPUT
+    marked_list()
+    print('worked example and marked list agree')
