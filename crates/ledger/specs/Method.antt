@@ -1,4 +1,5 @@
--- METH005 5.3 (source document 000), the Load Shaping Service, as the scope paper condenses it. "House" marks a rule that the paper adds.
+-- METH005 version 5.3 (source document 000), the Load Shaping Service, as the scope paper condenses it. A number such as "000, 9.1" is a section of
+-- that document; "house" marks a rule that the paper adds or puts in place of METH005's.
 -- Dates count from 0, categories from 0, periods from 1.
 use Prim.Native.Nat.{ℕ, zero, suc, _+_, _-_, _*_}
 use mathlib.Core.Bool.{Bool, not, _&&_, cond}
@@ -38,11 +39,11 @@ categoryAt bytes c =
 unfoldable pub isSmart : Category → Bool
 isSmart a = eqb (a .segment) 1
 
--- the paper's "family": Smart categories alike in domestic, quantity and connection; regions and all else may differ
+-- the paper's "family": Smart categories alike in domestic, quantity and connection; the GSP group and all else may differ (000, 6.1)
 unfoldable pub sameFamily : Category → Category → Bool
 sameFamily a b = isSmart a && isSmart b && eqb (a .domestic) (b .domestic) && eqb (a .quantity) (b .quantity) && eqb (a .connection) (b .connection)
 
--- ---- readings of a date
+-- ---- readings of a date (000, 4.1: counted by category and period)
 
 -- a set: the reading of each period in Wh, where it has one
 abbrev pub ReadingSet : Type 0
@@ -70,7 +71,7 @@ unfoldable pub total : (Option ℕ → ℕ) → (ℕ → Bool) → Picture → �
 total measure chosen [] j = 0
 total measure chosen (e ∷ es) j = cond (chosen (e .category)) (measure (e .readings j)) 0 + total measure chosen es j
 
--- ---- one date's own shape (000, 5.1 and 5.2)
+-- ---- one date's own shape (000, 5, 6 and 9)
 
 -- what a date's own readings give for a category and period: the average of its readings, the average over the family, or nothing
 pub data Fresh : Type 0 where
@@ -78,8 +79,8 @@ pub data Fresh : Type 0 where
   own : ℕ → ℕ → Fresh
   pooled : ℕ → ℕ → Fresh
 
--- s and n over the category, S and K over the family: own where n ≥ 1 and n reaches de-minimis, else pooled where the category is
--- Smart, K ≥ 1 and K reaches the same de-minimis. Averages are whole Wh, halves up (house).
+-- s and n over the category, S and K over the family: own where n ≥ 1 and n reaches de-minimis (000, 5.1 and 9.1), else pooled where
+-- the category is Smart, K ≥ 1 and K reaches the same de-minimis (000, 6.1). Averages are whole Wh, halves up (house).
 unfoldable pub freshOf : Category → ℕ → ℕ → ℕ → ℕ → Fresh
 freshOf a s n S K =
     cond (leb 1 n && leb (a .deMinimis) n)
@@ -95,7 +96,7 @@ freshIn category picture c j =
     (total wattHours (λ b. sameFamily (category c) (category b)) picture j)
     (total present (λ b. sameFamily (category c) (category b)) picture j)
 
--- ---- cells (000, 5.3)
+-- ---- cells (000, 7 and 8)
 
 pub data Flag : Type 0 where
   A D E N : Flag
@@ -106,11 +107,11 @@ pub record Cell : Type 0 where
   pub count : ℕ
   pub origin : ℕ
 
--- no shape: flag N, value 0, count 0, origin 65535 (house; METH005 has flag B and value 1)
+-- no shape: flag N, value 0, count 0, origin 65535 (house; 000, 8.1 has flag B and value 1)
 unfoldable pub blank : Cell
 blank = record { flag = N; value = 0; count = 0; origin = 65535 }
 
--- what a later date without a shape of its own takes over: value, count and origin under flag E, and nothing from nothing
+-- what a later date without a shape of its own takes over: value, count and origin under flag E (000, 7.1 and 7.3), and nothing from nothing
 unfoldable pub carried : Cell → Cell
 unfolding blank
 carried a = elim (a .flag) [
@@ -163,7 +164,7 @@ sameCell a b = eqb (flagNumber (a .flag)) (flagNumber (b .flag)) && eqb (a .valu
 unfoldable pub movedCell : Cell → Cell → ℕ
 movedCell a b = cond (sameCell a b) 0 1
 
--- ---- totals of a run date and category
+-- ---- totals of a run date and category (000, 10 to 17)
 
 -- all that a totals read answers
 pub record Totals : Type 0 where
@@ -191,24 +192,25 @@ isBlank D = 0
 isBlank E = 0
 isBlank N = 1
 
--- over the run dates among d and the n − 1 before it: the sum of f
+-- over the run dates among d and the n − 1 before it: the sum of f (000, 13.1 to 16.1 for n 7 and 365)
 unfoldable pub overRunDates : (ℕ → Bool) → ℕ → (ℕ → ℕ) → ℕ → ℕ
 overRunDates isRun n f d = sumBelow n (λ k. cond (leb k d && isRun (d - k)) (f (d - k)) 0)
 
 -- for one category: its window w, the period duration, P, which dates are run, and its cell on a date and period
 module _ (duration periods w : ℕ) (isRun : ℕ → Bool) (cell : ℕ → ℕ → Cell) where
-  -- TOT: all values of the date
+  -- TOT: all values of the date (000, 10.1)
   unfoldable pub totOn : ℕ → ℕ
   totOn d = sumBelow periods (λ k. cell d (suc k) .value)
 
-  -- OFF: the periods that lie wholly in the window; none does in window 0
+  -- OFF: the periods that lie wholly in the window (000, 11.1); none does in window 0
   unfoldable pub offOn : ℕ → ℕ
   offOn d = sumBelow periods (λ k. cond (liesWithin duration (windowStart w) (windowEnd w) (suc k)) (cell d (suc k) .value) 0)
 
-  -- PEAK: TOT less OFF; with window 0 it is 0 as well
+  -- PEAK: TOT less OFF (000, 12.1); with window 0 it is 0 as well (house)
   unfoldable pub peakOn : ℕ → ℕ
   peakOn d = cond (eqb w 0) 0 (totOn d - offOn d)
 
+  -- ANN over fewer than 365 run dates is scaled up to a year (000, 17), halves up (house)
   unfoldable pub totalsOn : ℕ → Totals
   totalsOn d =
       record {
