@@ -1,6 +1,6 @@
 -- Agreement with the plain ledger: every call keeps the relation and answers alike, so every list of calls does.
 use Prim.Native.Nat.{ℕ, zero, suc, _+_, _*_, _≤_, _<_}
-use mathlib.Core.Path.{_≡_, refl, sym, ap, _∙_}
+use mathlib.Core.Path.{_≡_, refl, sym, ap, ap₂, _∙_}
 use mathlib.Core.Bool.{Bool, true, false, not, and-eq-true-iff}
 use mathlib.Core.List.{List, [], _∷_, _++_}
 use mathlib.Core.Option.{Option}
@@ -17,7 +17,7 @@ use Rattle.ledger.specs.Sizes.{settingsLength, metersLength, readingsLen
 use Rattle.ledger.specs.Ledger.{Opening, categories, dates, periods, Meter, Ledger, start, Call, register, receive, run, readTotals, readCell, Answer, accepted, moved, totalsAre, cellIs, answer, left, Lengths, settingsShort, metersShort, cellsShort, anyShort, ledgerRegistrationCheck, afterRegistration, ledgerReceptionCheck, afterReception, cellAt, isRun, ledgerRunCheck, afterRun, movedBetween, at, ledgerTotalsCheck, ledgerCellCheck, totalsAt, ledgerAnswer, ledgerAfter}
 use Rattle.ledger.specs.Store.{rowOf, datesOf, categoriesOf, periodsOf, isRunAt}
 use Rattle.ledger.specs.Calls.{metersUnready, runUnready, cellsUnready, OpeningCall, openingVerdict, openedMeters, openedReadings, openedCells, registrationVerdict, registeredMeters, receptionVerdict, receivedReadings, rowAt, runVerdict, ranFrom, totalsVerdict, totalsFor, cellVerdict, cellFor}
-use Rattle.ledger.specs.Engine.{Parts, callAnswer, metersAfter, readingsAfter, cellsAfter, Item, cut, partsAfter, storeAnswers, cutLengths, ledgerAnswers, lengthsOf, openedParts, opening, AreBytes, BodyOfBytes, BodiesOfBytes, Agreement}
+use Rattle.ledger.specs.Engine.{Parts, callAnswer, metersAfter, readingsAfter, cellsAfter, Item, cut, partsAfter, answersFrom, storeAnswers, cutLengths, ledgerAnswers, Every, lengthsOf, openedParts, opening, AreBytes, BodyOfBytes, BodiesOfBytes, Agreement}
 use Rattle.ledger.proofs.Choices.{passed, passed-verdict, not-false, neither}
 use Rattle.ledger.proofs.Lists.{by-cases, getD-cut, getD-back, block-below}
 use Rattle.ledger.proofs.Relation.{SettingsAgree, MeterAt, FreeAt, MetersAgree, HeldAt, NotHeldAt, ReadingsAgree, CellsAgree, Sound}
@@ -495,17 +495,29 @@ module _ (p : Parts) (l : Ledger) (agrees : Agrees (lengthsOf p) p l) (n : Lengt
 
 -- ---- every list of calls
 
-list-agrees : (items : List Item) (whole : Lengths) (p : Parts) (l : Ledger) → Agrees whole p l → BodiesOfBytes items → storeAnswers p items ≡ ledgerAnswers l whole items
-unfolding storeAnswers ledgerAnswers
-list-agrees [] whole p l a b = refl
-list-agrees (i ∷ is) whole p l a b =
+-- a relation that every call keeps while the answers are alike makes the answers to every list alike
+simulation : {S L I A : Type 0} (f : S → I → A) (g : S → I → S) (h : L → I → A) (k : L → I → L) (R : S → L → Type 0) (ok : I → Type 0) →
+    ((s : S) (l : L) (i : I) → R s l → ok i → (f s i ≡ h l i) × R (g s i) (k l i)) →
+    (items : List I) → Every ok items → (s : S) (l : L) → R s l → answersFrom f g s items ≡ answersFrom h k l items
+unfolding answersFrom
+simulation f g h k R ok each [] b s l r = refl
+simulation f g h k R ok each (i ∷ is) b s l r =
+    let e = each s l i r (b .0) in
+    ap₂ (λ x xs. x ∷ xs) (e .0) (simulation f g h k R ok each is (b .1) (g s i) (k l i) (e .1))
+
+item-step : (whole : Lengths) (p : Parts) (l : Ledger) (i : Item) → Agrees whole p l → BodyOfBytes (i .call) →
+    (callAnswer (cut (i .lent) p) (i .call) ≡ ledgerAnswer l (cutLengths (i .lent) whole) (i .call))
+    × Agrees whole (partsAfter p i) (ledgerAfter l (cutLengths (i .lent) whole) (i .call))
+item-step whole p l i a b =
     let e = a .lengths in
     let here : Agrees (lengthsOf p) p l = record { sound = a .sound; settings = a .settings; meters = a .meters; readings = a .readings; cells = a .cells; lengths = refl } in
-    let s = step p l here (i .lent) (i .call) (b .0) in
+    let s = step p l here (i .lent) (i .call) b in
     let lens : cutLengths (i .lent) whole ≡ lengthsOf (cut (i .lent) p) = ap (λ w. cutLengths (i .lent) w) (sym e) ∙ lengths-lent p l here (i .lent) in
-    let next : Agrees whole (partsAfter p i) (ledgerAfter l (cutLengths (i .lent) whole) (i .call)) = rw (lens, ← e) (s .leaves) in
-    ap (λ x. x ∷ storeAnswers (partsAfter p i) is) (s .answers ∙ rw lens)
-    ∙ ap (λ xs. ledgerAnswer l (cutLengths (i .lent) whole) (i .call) ∷ xs) (list-agrees is whole (partsAfter p i) (ledgerAfter l (cutLengths (i .lent) whole) (i .call)) next (b .1))
+    (s .answers ∙ rw lens, rw (lens, ← e) (s .leaves))
+
+list-agrees : (items : List Item) (whole : Lengths) (p : Parts) (l : Ledger) → Agrees whole p l → BodiesOfBytes items → storeAnswers p items ≡ ledgerAnswers l whole items
+unfolding storeAnswers ledgerAnswers
+list-agrees items whole p l a b = simulation _ _ _ _ (Agrees whole) (λ i. BodyOfBytes (i .call)) (item-step whole) items b p l a
 
 -- ---- from an accepted opening on
 

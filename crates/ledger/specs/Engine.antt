@@ -74,9 +74,13 @@ partsAfter p i =
       cells = cellsAfter (cut (i .lent) p) (i .call) ++ drop (i .lent .cells) (p .cells);
     }
 
+-- the answers to a list of calls, each made on what the one before left
+unfoldable pub answersFrom : {S I A : Type 0} → (S → I → A) → (S → I → S) → S → List I → List A
+answersFrom answers leaves s [] = []
+answersFrom answers leaves s (i ∷ is) = answers s i ∷ answersFrom answers leaves (leaves s i) is
+
 unfoldable pub storeAnswers : Parts → List Item → List Answer
-storeAnswers p [] = []
-storeAnswers p (i ∷ is) = callAnswer (cut (i .lent) p) (i .call) ∷ storeAnswers (partsAfter p i) is
+storeAnswers p items = answersFrom (λ q i. callAnswer (cut (i .lent) q) (i .call)) partsAfter p items
 
 -- the lengths that parts of the lengths `whole` have when they are cut
 unfoldable pub cutLengths : Lengths → Lengths → Lengths
@@ -89,9 +93,8 @@ cutLengths n whole =
     }
 
 unfoldable pub ledgerAnswers : Ledger → Lengths → List Item → List Answer
-ledgerAnswers l whole [] = []
-ledgerAnswers l whole (i ∷ is) =
-    ledgerAnswer l (cutLengths (i .lent) whole) (i .call) ∷ ledgerAnswers (ledgerAfter l (cutLengths (i .lent) whole) (i .call)) whole is
+ledgerAnswers l whole items =
+    answersFrom (λ m i. ledgerAnswer m (cutLengths (i .lent) whole) (i .call)) (λ m i. ledgerAfter m (cutLengths (i .lent) whole) (i .call)) l items
 
 abbrev pub lengthsOf : Parts → Lengths
 lengthsOf p =
@@ -121,9 +124,13 @@ BodyOfBytes (run d) = Unit {0}
 BodyOfBytes (readTotals d c) = Unit {0}
 BodyOfBytes (readCell d c j) = Unit {0}
 
+-- a condition on every entry of a list
+abbrev pub Every : {I : Type 0} → (I → Type 0) → List I → Type 0
+Every ok [] = Unit {0}
+Every ok (i ∷ is) = ok i × Every ok is
+
 abbrev pub BodiesOfBytes : List Item → Type 0
-BodiesOfBytes [] = Unit {0}
-BodiesOfBytes (i ∷ is) = BodyOfBytes (i .call) × BodiesOfBytes is
+BodiesOfBytes items = Every (λ i. BodyOfBytes (i .call)) items
 
 -- Demand 3: for every opening that is accepted and every list of calls with the lengths lent, the answers are those of the plain ledger
 abbrev pub Agreement : Type 0
