@@ -1,0 +1,54 @@
+use Prim.Native.Nat.{_<_}
+use mathlib.Core.Path.{ap, _∙_}
+use denote.Ref.{now}
+use native.Mathlib.Omega.{arith}
+use Rattle.answers.specs.Text.{energyText, readBack}
+use Rattle.answers.proofs.Laws.{join, behind-blank, energy-reads-back}
+use borrow.Author.Needs.{needs}
+use Rattle.answers.proofs.append.append_energy.Statement.{statement}
+use Rattle.answers.proofs.append.append_energy.Tie as tie
+use Rattle.answers.proofs.append.append_energy.Reads as reads
+use Rattle.answers.proofs.append.append_energy.Lts as lts
+use Rattle.answers.proofs.append.append_byte.Reads as append-byte-reads
+use Rattle.answers.proofs.append.append_number.Reads as append-number-reads
+use Rattle.answers.proofs.append.append_thousandths.Reads as append-thousandths-reads
+
+-- src/append.rt:51:9
+append-number-requires : tie.Need-append-number-requires
+append-number-requires c κs = search needs
+
+-- src/append.rt:52:9
+append-byte-requires : tie.Need-append-byte-requires
+append-byte-requires c κs = search needs
+
+-- src/append.rt:53:5
+append-thousandths-requires : tie.Need-append-thousandths-requires
+append-thousandths-requires c κs = search needs
+
+-- src/append.rt:46:1
+same-length : tie.Need-same-length
+same-length c = search needs
+
+-- src/append.rt:46:1
+returns : tie.Need-returns
+unfolding energyText
+returns c =
+    let a = c .before .before .before .before .before .before .before .before .before .before .before .before .before .args in
+    let written = join (c .before .before .before .before .before .before .before .before .before .before .append-number .ensures .0) (join (c .before .before .before .before .before .before .append-byte .ensures) (c .before .before .append-thousandths .ensures)) in
+    let fits : a .energy < 18446744073709551616 = omega (arith, c .before .before .before .before .before .before .before .before .before .before .before .before .before .fits .energy) in (
+      written,
+      (
+        ap readBack (behind-blank (now (a .out)) _ (a .at) _ (energyText (a .energy)) (omega arith) written) ∙ energy-reads-back (a .energy) fits,
+        omega (arith, c .before .before .before .before .before .before .before .before .before .before .append-number .ensures .1, c .before .before .before .before .before .before .append-byte .ensures .end, c .before .before .append-thousandths .ensures .end),
+      ),
+    )
+
+pub append-energy-spec : {M : Type 1} → statement M
+append-energy-spec =
+    tie.close
+    (tie.spec
+    append-number-requires
+    append-byte-requires
+    append-thousandths-requires
+    same-length
+    returns)

@@ -1,0 +1,3 @@
+-- What the contracts on answer lines cite.
+pub mod Text
+pub mod Lines

@@ -1,0 +1,3 @@
+// The answers as text.
+pub mod append;
+pub mod lines;

@@ -1,0 +1,3 @@
+-- What the contracts on commands cite.
+pub mod Operands
+pub mod Form

@@ -1,0 +1,227 @@
+use Prim.Native.Nat.{ℕ, _-_, _≤_}
+use mathlib.Core.Path.{_≡_}
+use mathlib.Core.Bool.{false}
+use mathlib.Core.List.{List}
+use native.Mathlib.Omega.{arith}
+use lib.ListN.{length, getD, take, drop}
+use lib.Dec.{leb, ltb}
+use borrow.Author.Tests.{leb-true, ltb-true}
+use denote.Ref.{now}
+use Rattle.commands.specs.Form.{commandLength, isOverfull, Command}
+use Rattle.console.proofs.Laws.{window-length, category-room, day-type-room}
+use borrow.Author.Needs.{needs}
+use Rattle.console.proofs.session.turn.Statement.{statement}
+use Rattle.console.proofs.session.turn.Tie as tie
+use Rattle.console.proofs.session.turn.Reads as reads
+use Rattle.console.proofs.session.turn.Lts as lts
+use Rattle.commands.proofs.extent.command_extent.Reads as command-extent-reads
+use Rattle.console.proofs.session.append_bad.Reads as append-bad-reads
+use Rattle.console.proofs.session.obey.Reads as obey-reads
+use Rattle.console.proofs.session.refill.Reads as refill-reads
+
+abbrev start : tie.After-found → tie.Start
+start c = c .before .before .before .before .before .before .before .before .before .before .before .before .before .before .before
+
+abbrev window : tie.After-found → List ℕ
+window c =
+    let a = start c .args in
+    take (a .session .end - a .session .at) (drop (a .session .at) (now (a .input)))
+
+-- the whole command that was found, and that there is room for what it brings
+whole : (c : tie.After-found) → let a = start c .args in
+    (c .found .given .0 .0 ≡ commandLength (window c)) × Command (window c) ×
+    (isOverfull (getD (window c) 0 0) (leb 8 (length (now (a .category-records)) - a .session .«category_bytes»)) (ltb (a .session .«day_types») (length (now (a .day-types)))) ≡ false)
+whole c = rw (c .found .given .1) at (c .before .before .command-extent .ensures .1)
+
+within : (c : tie.After-found) → c .found .given .0 .0 ≤ start c .args .session .end - start c .args .session .at
+within c =
+    let a = start c .args in
+    let w = start c .pre .0 in
+    omega (arith, whole c .0, whole c .1 .whole, window-length (now (a .input)) (a .session .at) (a .session .end) (w .begun) (w .block))
+
+-- src/session.rt:186:30
+sub-category-room : tie.Need-sub-category-room
+sub-category-room c = search needs
+
+-- src/session.rt:188:32
+sub-command-extent : tie.Need-sub-command-extent
+sub-command-extent c = search needs
+
+-- src/session.rt:188:32
+part-command-extent-start : tie.Need-part-command-extent-start
+part-command-extent-start c = search needs
+
+-- src/session.rt:188:32
+part-command-extent-end : tie.Need-part-command-extent-end
+part-command-extent-end c = search needs
+
+-- src/session.rt:188:9
+command-extent-requires : tie.Need-command-extent-requires
+command-extent-requires c κs = search needs
+
+-- src/session.rt:190:23
+enum-known-found : tie.Need-enum-known-found
+enum-known-found c = search needs
+
+-- src/session.rt:192:23
+add-next : tie.Need-add-next
+add-next c = omega (arith, within (c .before), start (c .before) .pre .0)
+
+-- src/session.rt:195:17
+sub-obey : tie.Need-sub-obey
+sub-obey c = search needs
+
+-- src/session.rt:195:17
+part-obey-start : tie.Need-part-obey-start
+part-obey-start c = search needs
+
+-- src/session.rt:195:17
+part-obey-end : tie.Need-part-obey-end
+part-obey-end c = search needs
+
+-- src/session.rt:193:13
+obey-requires : tie.Need-obey-requires
+obey-requires c κs =
+    let f = c .before .before .before .before .before .before .before .before .before .before in
+    let held = start f .pre .1 in
+    let found = whole f in
+    let a = start f .args in
+    let left = length (now (a .category-records)) - a .session .«category_bytes» in (
+      found .1,
+      (
+        record { line = held .line; waiting = held .waiting; categories = held .categories; dayTypes = held .dayTypes },
+        record {
+          category = λ e. omega (arith, leb-true 8 left (category-room _ _ _ (found .2) e), held .categories);
+          dayType = λ e. omega (arith, ltb-true (a .session .«day_types») (length (now (a .day-types))) (day-type-room _ _ _ (found .2) e));
+        },
+      ),
+    )
+
+-- src/session.rt:207:40
+enum-told : tie.Need-enum-told
+enum-told c = search needs
+
+-- src/session.rt:207:24
+refill-requires : tie.Need-refill-requires
+refill-requires c κs = search needs
+
+-- src/session.rt:209:17
+enum-told-2 : tie.Need-enum-told-2
+enum-told-2 c = search needs
+
+-- src/session.rt:210:13
+append-bad-requires : tie.Need-append-bad-requires
+append-bad-requires c κs = search needs
+
+-- src/session.rt:166:1
+same-length : tie.Need-same-length
+same-length c = search needs
+
+-- src/session.rt:166:1
+same-length-2 : tie.Need-same-length-2
+same-length-2 c = search needs
+
+-- src/session.rt:166:1
+same-length-3 : tie.Need-same-length-3
+same-length-3 c = search needs
+
+-- src/session.rt:166:1
+same-length-4 : tie.Need-same-length-4
+same-length-4 c = search needs
+
+-- src/session.rt:166:1
+same-length-5 : tie.Need-same-length-5
+same-length-5 c = search needs
+
+-- src/session.rt:166:1
+same-length-6 : tie.Need-same-length-6
+same-length-6 c = search needs
+
+-- src/session.rt:166:1
+same-length-7 : tie.Need-same-length-7
+same-length-7 c = search needs
+
+-- src/session.rt:166:1
+same-length-8 : tie.Need-same-length-8
+same-length-8 c = search needs
+
+-- src/session.rt:166:1
+returns : tie.Need-returns
+returns c =
+    let f = c .before .before .before .before .before .before .before .before .before .before .before .before .before .before .before .before .before .before .before .before .before .before .before .before .before in
+    let obeyed = c .before .before .before .before .before .before .before .before .before .before .before .before .before .before .obey .ensures in (
+      record {
+        begun = omega (arith, obeyed .1, within f, start f .pre .0 .begun);
+        block = omega (arith, obeyed .1, start f .pre .0 .block);
+      },
+      obeyed .0,
+    )
+
+-- src/session.rt:166:1
+same-length-9 : tie.Need-same-length-9
+same-length-9 c = search needs
+
+-- src/session.rt:166:1
+same-length-10 : tie.Need-same-length-10
+same-length-10 c = search needs
+
+-- src/session.rt:166:1
+returns-2 : tie.Need-returns-2
+returns-2 c =
+    let held = c .before .before .before .before .before .before .before .before .before .before .before .before .before .before .before .before .before .before .before .before .before .before .pre .1 in
+    let filled = c .before .before .before .before .refill .ensures in (
+      filled .0 .0,
+      record {
+        line = held .line;
+        waiting = filled .0 .1;
+        categories = omega (arith, filled .1, held .categories);
+        dayTypes = omega (arith, filled .1, held .dayTypes);
+      },
+    )
+
+-- src/session.rt:166:1
+same-length-11 : tie.Need-same-length-11
+same-length-11 c = search needs
+
+-- src/session.rt:166:1
+same-length-12 : tie.Need-same-length-12
+same-length-12 c = search needs
+
+-- src/session.rt:166:1
+returns-3 : tie.Need-returns-3
+returns-3 c = search needs
+
+pub turn-spec : {M : Type 1} → statement M
+turn-spec =
+    tie.close
+    (tie.spec
+    sub-category-room
+    sub-command-extent
+    part-command-extent-start
+    part-command-extent-end
+    command-extent-requires
+    enum-known-found
+    add-next
+    sub-obey
+    part-obey-start
+    part-obey-end
+    obey-requires
+    enum-told
+    refill-requires
+    enum-told-2
+    append-bad-requires
+    same-length
+    same-length-2
+    same-length-3
+    same-length-4
+    same-length-5
+    same-length-6
+    same-length-7
+    same-length-8
+    returns
+    same-length-9
+    same-length-10
+    returns-2
+    same-length-11
+    same-length-12
+    returns-3)

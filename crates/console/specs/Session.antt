@@ -1,0 +1,21 @@
+-- What holds of a session between two commands.
+use Prim.Native.Nat.{ℕ, _+_, _≤_}
+use mathlib.Core.Path.{_≡_}
+use Rattle.console.specs.declared.session.Session.{Session}
+
+-- the bytes not yet taken lie within the input block
+pub record Window (s : Session) (input : ℕ) : Type 0 where
+  pub begun : s .at ≤ s .end
+  pub block : s .end ≤ input
+
+-- what waits and what is collected lie within their buffers, and a line has room in the output
+pub record Held (s : Session) (output categoryRoom dayTypeRoom : ℕ) : Type 0 where
+  pub line : 300 ≤ output
+  pub waiting : s .waiting ≤ output
+  pub categories : s .«category_bytes» ≤ categoryRoom
+  pub dayTypes : s .«day_types» ≤ dayTypeRoom
+
+-- there is room for what an 11 or a 12 brings
+pub record Room (s : Session) (code categoryRoom dayTypeRoom : ℕ) : Type 0 where
+  pub category : code ≡ 17 → s .«category_bytes» + 8 ≤ categoryRoom
+  pub dayType : code ≡ 18 → s .«day_types» + 1 ≤ dayTypeRoom

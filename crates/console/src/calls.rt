@@ -1,0 +1,199 @@
+// One function for each call of the engine: the operands in, the answer line out.
+use answers::append::append;
+use answers::lines::append_cell;
+use answers::lines::append_outcome;
+use answers::lines::append_run;
+use answers::lines::append_totals;
+use commands::operands::one;
+use commands::operands::opening_at;
+use commands::operands::reception_at;
+use commands::operands::registration_at;
+use commands::operands::two;
+use registry::opening;
+use registry::reception;
+use registry::registration;
+ghost use mathlib.Core.Path.{_≡_};
+ghost use Prim.Native.Nat.{_+_, _*_, _≤_};
+ghost use lib.ListN.{length, take, getD};
+ghost use Rattle.commands.specs.Operands.{bodyOf};
+ghost use Rattle.console.specs.Parts.{partsSuffice, Answered};
+
+// Whether the program's parts are enough for that many meters and date-periods. Durations other
+// than 15 and 30 are refused before the parts count.
+fn parts_suffice(
+    duration: u64,
+    meters: u64,
+    dates: u64,
+    most_meters: u64,
+    most_date_periods: u64,
+) -> bool
+    ensures { λ r. ⌜ r ≡ partsSuffice duration meters dates «most_meters» «most_date_periods» ⌝ }
+{
+    if most_meters < meters {
+        return false;
+    }
+    if duration == 15 {
+        return dates <= most_date_periods / 96;
+    }
+    dates <= most_date_periods / 48
+}
+
+// An opening that the parts do not suffice for is lent empty ones.
+pub fn open(
+    command: &[u8],
+    category_records: &[u8],
+    day_types: &[u8],
+    settings: &mut [u8],
+    meters: &mut [u64],
+    readings: &mut [u64],
+    cells: &mut [u64],
+    most_meters: u64,
+    most_date_periods: u64,
+    out: &mut [u8],
+    at: usize,
+) -> usize
+    requires { ⌜ (4 ≤ length (now command)) × (at + 300 ≤ length (now out)) ⌝ }
+    ensures { λ r. ⌜ Answered (now (out .entry)) at (now (out .exit)) r ⌝ }
+{
+    let given = opening_at(command);
+    let dates = day_types.len() as u64;
+    if parts_suffice(
+        given.duration,
+        given.meters,
+        dates,
+        most_meters,
+        most_date_periods,
+    ) {
+        let outcome = opening::open(
+            settings,
+            meters,
+            readings,
+            cells,
+            given.duration,
+            given.meters,
+            category_records,
+            day_types,
+        );
+        return append_outcome(out, at, 0x10, outcome);
+    }
+    let outcome = opening::open(
+        &mut settings[..0],
+        &mut meters[..0],
+        &mut readings[..0],
+        &mut cells[..0],
+        given.duration,
+        given.meters,
+        category_records,
+        day_types,
+    );
+    append_outcome(out, at, 0x10, outcome)
+}
+
+pub fn register(
+    command: &[u8],
+    settings: &[u8],
+    meters: &mut [u64],
+    readings: &[u64],
+    out: &mut [u8],
+    at: usize,
+) -> usize
+    requires { ⌜ (21 ≤ length (now command)) × (at + 300 ≤ length (now out)) ⌝ }
+    ensures { λ r. ⌜ Answered (now (out .entry)) at (now (out .exit)) r ⌝ }
+{
+    let given = registration_at(command);
+    let outcome = registration::register(
+        settings,
+        meters,
+        readings,
+        given.mpan,
+        given.date,
+        given.minute,
+        given.category,
+        given.sender,
+        given.status,
+        given.limit,
+    );
+    append_outcome(out, at, 0x13, outcome)
+}
+
+// The records of a reception without their 15s; answers how many bytes they are.
+fn gather(command: &[u8], records: u64, body: &mut [u8]) -> usize
+    requires { ⌜ (16 + 8 * records ≤ length (now command)) × (7 * records ≤ length (now body)) ⌝ }
+    ensures { λ r. ⌜ (r ≡ 7 * records) × (take r (now (body .exit)) ≡ bodyOf records (now (command .entry))) ⌝ }
+{
+    let mut from: usize = 16;
+    let mut to: usize = 0;
+    let mut taken: u64 = 0;
+    while taken < records {
+        to = append(body, to, &command[from + 1..from + 8]);
+        from += 8;
+        taken += 1;
+    }
+    to
+}
+
+pub fn receive(
+    command: &[u8],
+    settings: &[u8],
+    meters: &[u64],
+    readings: &mut [u64],
+    out: &mut [u8],
+    at: usize,
+) -> usize
+    requires { ⌜ (16 ≤ length (now command)) × (16 + 8 * getD (now command) 15 0 ≤ length (now command)) × (at + 300 ≤ length (now out)) ⌝ }
+    ensures { λ r. ⌜ Answered (now (out .entry)) at (now (out .exit)) r ⌝ }
+{
+    let given = reception_at(command);
+    let mut body = [0u8; 1785];
+    let length = gather(command, given.records, &mut body);
+    let outcome = reception::receive(
+        settings,
+        meters,
+        readings,
+        given.sender,
+        given.mpan,
+        given.date,
+        given.duration,
+        given.quantity,
+        &body[..length],
+    );
+    append_outcome(out, at, 0x14, outcome)
+}
+
+pub fn run(
+    command: &[u8],
+    settings: &[u8],
+    meters: &[u64],
+    readings: &[u64],
+    cells: &mut [u64],
+    out: &mut [u8],
+    at: usize,
+) -> usize
+    requires { ⌜ (3 ≤ length (now command)) × (at + 300 ≤ length (now out)) ⌝ }
+    ensures { λ r. ⌜ Answered (now (out .entry)) at (now (out .exit)) r ⌝ }
+{
+    let outcome = shapes::run(settings, meters, readings, cells, two(command, 1));
+    append_run(out, at, outcome)
+}
+
+pub fn totals(command: &[u8], settings: &[u8], cells: &[u64], out: &mut [u8], at: usize) -> usize
+    requires { ⌜ (4 ≤ length (now command)) × (at + 300 ≤ length (now out)) ⌝ }
+    ensures { λ r. ⌜ Answered (now (out .entry)) at (now (out .exit)) r ⌝ }
+{
+    let outcome = reports::read_totals(settings, cells, two(command, 1), one(command, 3));
+    append_totals(out, at, outcome)
+}
+
+pub fn cell(command: &[u8], settings: &[u8], cells: &[u64], out: &mut [u8], at: usize) -> usize
+    requires { ⌜ (5 ≤ length (now command)) × (at + 300 ≤ length (now out)) ⌝ }
+    ensures { λ r. ⌜ Answered (now (out .entry)) at (now (out .exit)) r ⌝ }
+{
+    let outcome = reports::read_cell(
+        settings,
+        cells,
+        two(command, 1),
+        one(command, 3),
+        one(command, 4),
+    );
+    append_cell(out, at, outcome)
+}

@@ -1,0 +1,5 @@
+// The command program's work: commands in from standard input, answers out to standard output.
+mod calls;
+mod session;
+
+pub use session::converse;

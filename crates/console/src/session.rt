@@ -1,0 +1,293 @@
+// Blocks of input taken command by command, and the answers gathered into blocks of output.
+use crate::calls;
+use answers::append::append;
+use commands::extent::Extent;
+use commands::extent::command_extent;
+use libc::STDIN_FILENO;
+use libc::STDOUT_FILENO;
+ghost use mathlib.Core.Path.{_≡_};
+ghost use Prim.Native.Nat.{_+_, _≤_};
+ghost use lib.ListN.{length, take, drop, getD};
+ghost use Rattle.commands.specs.Form.{Command};
+ghost use Rattle.console.specs.Parts.{Answered};
+ghost use Rattle.console.specs.Session.{Window, Held, Room};
+
+// The input block's next byte and the one past its last; how much of the lent category records
+// and day types is collected; how much of the output block waits; whether the dialogue is over.
+pub struct Session {
+    pub at: usize,
+    pub end: usize,
+    pub category_bytes: usize,
+    pub day_types: usize,
+    pub waiting: usize,
+    pub over: bool,
+}
+
+// A line is shorter than 300 bytes: room for one, by writing out what waits.
+fn with_room(output: &[u8], waiting: usize) -> usize
+    requires { ⌜ (waiting ≤ length (now output)) × (300 ≤ length (now output)) ⌝ }
+    ensures { λ r. ⌜ r + 300 ≤ length (now (output .entry)) ⌝ }
+{
+    if output.len() - waiting < 300 {
+        io::write_all(STDOUT_FILENO, &output[..waiting]);
+        return 0;
+    }
+    waiting
+}
+
+// Moves `count` bytes from `from` on to the front.
+fn shift(block: &mut [u8], from: usize, count: usize)
+    requires { ⌜ from + count ≤ length (now block) ⌝ }
+    ensures { λ r. ⌜ take count (now (block .exit)) ≡ take count (drop from (now (block .entry))) ⌝ }
+{
+    let mut i: usize = 0;
+    while i < count {
+        block[i] = block[from + i];
+        i += 1;
+    }
+}
+
+// The last line; answers how much waits then.
+fn append_bad(output: &mut [u8], waiting: usize) -> usize
+    requires { ⌜ (waiting ≤ length (now output)) × (300 ≤ length (now output)) ⌝ }
+    ensures { λ r. ⌜ r ≤ length (now (output .entry)) ⌝ }
+{
+    let at = with_room(&output[..], waiting);
+    append(output, at, b"bad\n")
+}
+
+// Reads on behind the cut command, once all that was asked so far is answered. At the input's end
+// nothing may be cut.
+fn refill(session: Session, input: &mut [u8], output: &mut [u8]) -> Session
+    requires { ⌜ Window session (length (now input)) ⌝ }
+    requires { ⌜ (session .waiting ≤ length (now output)) × (300 ≤ length (now output)) ⌝ }
+    ensures { λ r. ⌜ Window r (length (now (input .entry))) × (r .waiting ≤ length (now (output .entry))) ⌝ }
+    ensures { λ r. ⌜ (r .«category_bytes» ≡ session .«category_bytes») × (r .«day_types» ≡ session .«day_types») ⌝ }
+{
+    let mut next = session;
+    let at = next.at;
+    let kept = next.end - at;
+    shift(input, at, kept);
+    let waiting = next.waiting;
+    io::write_all(STDOUT_FILENO, &output[..waiting]);
+    next.waiting = 0;
+    let got = libc::read(STDIN_FILENO, &mut input[kept..]);
+    let fresh = io::count(got, &input[kept..]);
+    next.at = 0;
+    next.end = kept + fresh;
+    if fresh == 0 {
+        next.over = true;
+        if 0 < kept {
+            next.waiting = append_bad(output, 0);
+        }
+    }
+    next
+}
+
+// A command that asks the opened store.
+fn ask(
+    command: &[u8],
+    settings: &[u8],
+    meters: &mut [u64],
+    readings: &mut [u64],
+    cells: &mut [u64],
+    output: &mut [u8],
+    at: usize,
+) -> usize
+    requires { ⌜ Command (now command) × (at + 300 ≤ length (now output)) ⌝ }
+    requires { ⌜ (getD (now command) 0 0 ≡ 16 → ⊥) × (getD (now command) 0 0 ≡ 17 → ⊥) × (getD (now command) 0 0 ≡ 18 → ⊥) ⌝ }
+    ensures { λ r. ⌜ Answered (now (output .entry)) at (now (output .exit)) r ⌝ }
+{
+    let code = command[0];
+    match code {
+        0x13 => calls::register(command, settings, meters, &readings[..], output, at),
+        0x14 => calls::receive(command, settings, &meters[..], readings, output, at),
+        0x16 => calls::run(
+            command,
+            settings,
+            &meters[..],
+            &readings[..],
+            cells,
+            output,
+            at,
+        ),
+        0x17 => calls::totals(command, settings, &cells[..], output, at),
+        _ => calls::cell(command, settings, &cells[..], output, at),
+    }
+}
+
+// Obeys the command that the bytes start with.
+fn obey(
+    session: Session,
+    command: &[u8],
+    output: &mut [u8],
+    category_records: &mut [u8],
+    day_types: &mut [u8],
+    settings: &mut [u8],
+    meters: &mut [u64],
+    readings: &mut [u64],
+    cells: &mut [u64],
+    most_meters: u64,
+    most_date_periods: u64,
+) -> Session
+    requires { ⌜ Command (now command) ⌝ }
+    requires { ⌜ Held session (length (now output)) (length (now «category_records»)) (length (now «day_types»)) ⌝ }
+    requires { ⌜ Room session (getD (now command) 0 0) (length (now «category_records»)) (length (now «day_types»)) ⌝ }
+    ensures { λ r. ⌜ Held r (length (now (output .entry))) (length (now («category_records» .entry))) (length (now («day_types» .entry))) ⌝ }
+    ensures { λ r. ⌜ (r .at ≡ session .at) × (r .end ≡ session .end) ⌝ }
+{
+    let mut next = session;
+    let code = command[0];
+    if code == 0x11 {
+        next.category_bytes = append(category_records, next.category_bytes, &command[1..9]);
+        return next;
+    }
+    if code == 0x12 {
+        next.day_types = append(day_types, next.day_types, &command[1..2]);
+        return next;
+    }
+    let at = with_room(&output[..], next.waiting);
+    if code == 0x10 {
+        let category_bytes = next.category_bytes;
+        let dates = next.day_types;
+        next.waiting = calls::open(
+            command,
+            &category_records[..category_bytes],
+            &day_types[..dates],
+            settings,
+            meters,
+            readings,
+            cells,
+            most_meters,
+            most_date_periods,
+            output,
+            at,
+        );
+        next.category_bytes = 0;
+        next.day_types = 0;
+        return next;
+    }
+    next.waiting = ask(command, &settings[..], meters, readings, cells, output, at);
+    next
+}
+
+fn turn(
+    session: Session,
+    input: &mut [u8],
+    output: &mut [u8],
+    category_records: &mut [u8],
+    day_types: &mut [u8],
+    settings: &mut [u8],
+    meters: &mut [u64],
+    readings: &mut [u64],
+    cells: &mut [u64],
+    most_meters: u64,
+    most_date_periods: u64,
+) -> Session
+    requires { ⌜ Window session (length (now input)) ⌝ }
+    requires { ⌜ Held session (length (now output)) (length (now «category_records»)) (length (now «day_types»)) ⌝ }
+    ensures { λ r. ⌜ Window r (length (now (input .entry))) ⌝ }
+    ensures { λ r. ⌜ Held r (length (now (output .entry))) (length (now («category_records» .entry))) (length (now («day_types» .entry))) ⌝ }
+{
+    let at = session.at;
+    let end = session.end;
+    let category_room = 8 <= category_records.len() - session.category_bytes;
+    let day_type_room = session.day_types < day_types.len();
+    let found = command_extent(&input[at..end], category_room, day_type_room);
+    match found {
+        Extent::Whole(count) => {
+            let mut next = session;
+            next.at = at + count;
+            obey(
+                next,
+                &input[at..end],
+                output,
+                category_records,
+                day_types,
+                settings,
+                meters,
+                readings,
+                cells,
+                most_meters,
+                most_date_periods,
+            )
+        }
+        Extent::Cut => refill(session, input, output),
+        Extent::Bad => {
+            let mut next = session;
+            next.waiting = append_bad(output, next.waiting);
+            next.over = true;
+            next
+        }
+    }
+}
+
+fn take_turns(
+    input: &mut [u8],
+    output: &mut [u8],
+    category_records: &mut [u8],
+    day_types: &mut [u8],
+    settings: &mut [u8],
+    meters: &mut [u64],
+    readings: &mut [u64],
+    cells: &mut [u64],
+    most_meters: u64,
+    most_date_periods: u64,
+)
+    requires { ⌜ 300 ≤ length (now output) ⌝ }
+{
+    let mut session = Session {
+        at: 0,
+        end: 0,
+        category_bytes: 0,
+        day_types: 0,
+        waiting: 0,
+        over: false,
+    };
+    let mut turns = u64::MAX;
+    while turns > 0 && !session.over {
+        session = turn(
+            session,
+            input,
+            output,
+            category_records,
+            day_types,
+            settings,
+            meters,
+            readings,
+            cells,
+            most_meters,
+            most_date_periods,
+        );
+        turns -= 1;
+    }
+    let waiting = session.waiting;
+    io::write_all(STDOUT_FILENO, &output[..waiting]);
+}
+
+// The whole dialogue. As many 11s and 12s are collected as the first two parts have room for.
+pub fn converse(
+    category_records: &mut [u8],
+    day_types: &mut [u8],
+    settings: &mut [u8],
+    meters: &mut [u64],
+    readings: &mut [u64],
+    cells: &mut [u64],
+    most_meters: u64,
+    most_date_periods: u64,
+) {
+    let mut input = io::large_buffer();
+    let mut output = io::large_buffer();
+    take_turns(
+        &mut input,
+        &mut output,
+        category_records,
+        day_types,
+        settings,
+        meters,
+        readings,
+        cells,
+        most_meters,
+        most_date_periods,
+    );
+}
