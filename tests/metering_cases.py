@@ -213,6 +213,7 @@ def main():
     if len(sys.argv) != 2:
         sys.exit(__doc__)
     folder = pathlib.Path(sys.argv[1])
+    folder.mkdir(parents=True, exist_ok=True)
     cases = Cases()
     for group in (mpan_cases, average_cases, annual_cases, calendar_cases, range_cases, category_cases):
         group(cases)

@@ -41,7 +41,7 @@ def reachable(profile):
     keys += [('flag', flag) for flag in FLAGS]
     keys += [('bad', cause) for cause in CAUSES]
     if profile == 'wide':
-        keys += [('13', 12), ('ANN', 'of 365 days')]
+        keys += [('13', 12), ('ANN', 'of 365 days'), ('copy', 'over 100 dates')]
     return keys
 
 
@@ -54,7 +54,7 @@ class Result(NamedTuple):
     difference: str
 
 
-def reached_by(expected):
+def reached_by(data, expected):
     reached = Counter()
     for answer in expected:
         words = answer.line.split()
@@ -66,6 +66,9 @@ def reached_by(expected):
             reached[words[0], 'ok'] += 1
             if words[0] == '18':
                 reached['flag', words[2]] += 1
+                date = int.from_bytes(data[answer.begin + 1:answer.begin + 3], 'big')
+                if words[2] == 'E' and date - int(words[5]) > 100:
+                    reached['copy', 'over 100 dates'] += 1
             elif words[0] == '17' and words[10] == '365':
                 reached['ANN', 'of 365 days'] += 1
     return reached
@@ -113,7 +116,7 @@ def compare(program, profile, commands, seed):
         difference = 'no end within 120 seconds'
     theirs = time.perf_counter() - begin
     answered = sum(not answer.cause for answer in expected)
-    return Result(seed, answered, reached_by(expected), ours, theirs, difference)
+    return Result(seed, answered, reached_by(data, expected), ours, theirs, difference)
 
 
 def print_table(reached):
@@ -121,7 +124,7 @@ def print_table(reached):
     for answer in ('ok', *sorted({n for key, n in reached if key in COMMANDS and n != 'ok'})):
         counts = [reached[command, answer] or '' for command in COMMANDS]
         print(f'{answer:<6}' + ''.join(f'{count:>9}' for count in counts))
-    for kind in ('flag', 'bad', 'ANN'):
+    for kind in ('flag', 'bad', 'ANN', 'copy'):
         for (key, name), count in sorted(reached.items(), key=str):
             if key == kind:
                 print(f'{kind} {name}: {count}')

@@ -13,8 +13,12 @@ use store::cell::Flag;
 ghost use mathlib.Core.Path.{_≡_};
 ghost use Prim.Native.Nat.{_+_, _≤_};
 ghost use lib.ListN.{length};
+ghost use Rattle.registry.specs.Outcome.{answerOf};
+ghost use Rattle.shapes.specs.Outcome.{runAnswer};
+ghost use Rattle.reports.specs.Answer.{totalsMeant, totalsAnswer, cellAnswer};
+ghost use Rattle.store.specs.Cell.{flagMeant, cellMeant};
 ghost use Rattle.answers.specs.Text.{Appended};
-ghost use Rattle.answers.specs.Lines.{commandText, acceptedText, refusedLine, outcomeLine, runLine, energiesText, totalsText, totalsLine, letterOf, originWord, cellText, cellLine};
+ghost use Rattle.answers.specs.Lines.{commandText, acceptedText, refusedLine, energiesText, totalsText, letterOf, originWord, cellText, answerLine};
 
 // The command's byte in hex.
 fn append_command(out: &mut [u8], at: usize, code: u8) -> usize
@@ -46,7 +50,7 @@ fn append_refused(out: &mut [u8], at: usize, code: u8, number: u64, place: u64) 
 
 pub fn append_outcome(out: &mut [u8], at: usize, code: u8, outcome: Outcome) -> usize
     requires { ⌜ at + 300 ≤ length (now out) ⌝ }
-    ensures { λ r. ⌜ Appended (now (out .entry)) at (now (out .exit)) r (outcomeLine code outcome) ⌝ }
+    ensures { λ r. ⌜ Appended (now (out .entry)) at (now (out .exit)) r (answerLine code (answerOf outcome)) ⌝ }
     ensures { λ r. ⌜ r ≤ at + 300 ⌝ }
 {
     match outcome {
@@ -60,7 +64,7 @@ pub fn append_outcome(out: &mut [u8], at: usize, code: u8, outcome: Outcome) -> 
 
 pub fn append_run(out: &mut [u8], at: usize, outcome: RunOutcome) -> usize
     requires { ⌜ at + 300 ≤ length (now out) ⌝ }
-    ensures { λ r. ⌜ Appended (now (out .entry)) at (now (out .exit)) r (runLine outcome) ⌝ }
+    ensures { λ r. ⌜ Appended (now (out .entry)) at (now (out .exit)) r (answerLine 22 (runAnswer outcome)) ⌝ }
     ensures { λ r. ⌜ r ≤ at + 300 ⌝ }
 {
     match outcome {
@@ -86,7 +90,7 @@ fn append_energies(out: &mut [u8], at: usize, tot: u64, off: u64, peak: u64) -> 
 
 fn append_figures(out: &mut [u8], at: usize, totals: Totals) -> usize
     requires { ⌜ at + 259 ≤ length (now out) ⌝ }
-    ensures { λ r. ⌜ Appended (now (out .entry)) at (now (out .exit)) r (totalsText totals) ⌝ }
+    ensures { λ r. ⌜ Appended (now (out .entry)) at (now (out .exit)) r (totalsText (totalsMeant totals)) ⌝ }
     ensures { λ r. ⌜ r ≤ at + 259 ⌝ }
 {
     let mut next = append_energies(out, at, totals.tot, totals.off, totals.peak);
@@ -100,7 +104,7 @@ fn append_figures(out: &mut [u8], at: usize, totals: Totals) -> usize
 
 pub fn append_totals(out: &mut [u8], at: usize, outcome: TotalsOutcome) -> usize
     requires { ⌜ at + 300 ≤ length (now out) ⌝ }
-    ensures { λ r. ⌜ Appended (now (out .entry)) at (now (out .exit)) r (totalsLine outcome) ⌝ }
+    ensures { λ r. ⌜ Appended (now (out .entry)) at (now (out .exit)) r (answerLine 23 (totalsAnswer outcome)) ⌝ }
     ensures { λ r. ⌜ r ≤ at + 300 ⌝ }
 {
     match outcome {
@@ -114,7 +118,7 @@ pub fn append_totals(out: &mut [u8], at: usize, outcome: TotalsOutcome) -> usize
 }
 
 fn letter(flag: Flag) -> u8
-    ensures { λ r. ⌜ r ≡ letterOf flag ⌝ }
+    ensures { λ r. ⌜ r ≡ letterOf (flagMeant flag) ⌝ }
 {
     match flag {
         Flag::A => b'A',
@@ -138,7 +142,7 @@ fn append_origin(out: &mut [u8], at: usize, origin: u64) -> usize
 
 fn append_fields(out: &mut [u8], at: usize, cell: Cell) -> usize
     requires { ⌜ at + 69 ≤ length (now out) ⌝ }
-    ensures { λ r. ⌜ Appended (now (out .entry)) at (now (out .exit)) r (cellText cell) ⌝ }
+    ensures { λ r. ⌜ Appended (now (out .entry)) at (now (out .exit)) r (cellText (cellMeant cell)) ⌝ }
     ensures { λ r. ⌜ r ≤ at + 69 ⌝ }
 {
     let flag = cell.flag;
@@ -150,7 +154,7 @@ fn append_fields(out: &mut [u8], at: usize, cell: Cell) -> usize
 
 pub fn append_cell(out: &mut [u8], at: usize, outcome: CellOutcome) -> usize
     requires { ⌜ at + 300 ≤ length (now out) ⌝ }
-    ensures { λ r. ⌜ Appended (now (out .entry)) at (now (out .exit)) r (cellLine outcome) ⌝ }
+    ensures { λ r. ⌜ Appended (now (out .entry)) at (now (out .exit)) r (answerLine 24 (cellAnswer outcome)) ⌝ }
     ensures { λ r. ⌜ r ≤ at + 300 ⌝ }
 {
     match outcome {

@@ -1,3 +1,3 @@
 -- What the console's contracts cite.
-pub mod Parts
+pub mod Commands
 pub mod Session

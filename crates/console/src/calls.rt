@@ -15,8 +15,12 @@ use registry::registration;
 ghost use mathlib.Core.Path.{_≡_};
 ghost use Prim.Native.Nat.{_+_, _*_, _≤_};
 ghost use lib.ListN.{length, take, getD};
-ghost use Rattle.commands.specs.Operands.{bodyOf};
-ghost use Rattle.console.specs.Parts.{partsSuffice, Answered};
+ghost use Rattle.commands.specs.Operands.{bodyOf, operand, runWidths, totalsWidths, cellWidths};
+ghost use Rattle.ledger.specs.Ledger.{answer, accepted, moved, totalsAre, cellIs, left};
+ghost use Rattle.ledger.specs.Calls.{registrationVerdict, registeredMeters, receptionVerdict, receivedReadings, runVerdict, ranFrom, totalsVerdict, totalsFor, cellVerdict, cellFor};
+ghost use Rattle.answers.specs.Text.{Appended};
+ghost use Rattle.answers.specs.Lines.{answerLine};
+ghost use Rattle.console.specs.Commands.{partsOf, most, partsSuffice, openingOf, sufficesFor, openingAnswer, openingLeaves, registrationOf, receptionOf};
 
 // Whether the program's parts are enough for that many meters and date-periods. Durations other
 // than 15 and 30 are refused before the parts count.
@@ -27,7 +31,7 @@ fn parts_suffice(
     most_meters: u64,
     most_date_periods: u64,
 ) -> bool
-    ensures { λ r. ⌜ r ≡ partsSuffice duration meters dates «most_meters» «most_date_periods» ⌝ }
+    ensures { λ r. ⌜ r ≡ partsSuffice (most «most_meters» «most_date_periods») duration meters dates ⌝ }
 {
     if most_meters < meters {
         return false;
@@ -53,7 +57,9 @@ pub fn open(
     at: usize,
 ) -> usize
     requires { ⌜ (4 ≤ length (now command)) × (at + 300 ≤ length (now out)) ⌝ }
-    ensures { λ r. ⌜ Answered (now (out .entry)) at (now (out .exit)) r ⌝ }
+    ensures { λ r. ⌜ Appended (now (out .entry)) at (now (out .exit)) r (answerLine 16 (openingAnswer (sufficesFor (most «most_meters» «most_date_periods») (openingOf (now (command .entry)) (now («category_records» .entry)) (now («day_types» .entry)))) (partsOf (now (settings .entry)) (now (meters .entry)) (now (readings .entry)) (now (cells .entry))) (openingOf (now (command .entry)) (now («category_records» .entry)) (now («day_types» .entry))))) ⌝ }
+    ensures { λ r. ⌜ partsOf (now (settings .exit)) (now (meters .exit)) (now (readings .exit)) (now (cells .exit)) ≡ openingLeaves (sufficesFor (most «most_meters» «most_date_periods») (openingOf (now (command .entry)) (now («category_records» .entry)) (now («day_types» .entry)))) (partsOf (now (settings .entry)) (now (meters .entry)) (now (readings .entry)) (now (cells .entry))) (openingOf (now (command .entry)) (now («category_records» .entry)) (now («day_types» .entry))) ⌝ }
+    ensures { λ r. ⌜ r ≤ at + 300 ⌝ }
 {
     let given = opening_at(command);
     let dates = day_types.len() as u64;
@@ -98,7 +104,9 @@ pub fn register(
     at: usize,
 ) -> usize
     requires { ⌜ (21 ≤ length (now command)) × (at + 300 ≤ length (now out)) ⌝ }
-    ensures { λ r. ⌜ Answered (now (out .entry)) at (now (out .exit)) r ⌝ }
+    ensures { λ r. ⌜ Appended (now (out .entry)) at (now (out .exit)) r (answerLine 19 (answer (registrationVerdict (now (settings .entry)) (now (meters .entry)) (now (readings .entry)) (registrationOf (now (command .entry)))) accepted)) ⌝ }
+    ensures { λ r. ⌜ now (meters .exit) ≡ left (registrationVerdict (now (settings .entry)) (now (meters .entry)) (now (readings .entry)) (registrationOf (now (command .entry)))) (now (meters .entry)) (registeredMeters (now (settings .entry)) (now (meters .entry)) (now (readings .entry)) (registrationOf (now (command .entry)))) ⌝ }
+    ensures { λ r. ⌜ r ≤ at + 300 ⌝ }
 {
     let given = registration_at(command);
     let outcome = registration::register(
@@ -141,7 +149,9 @@ pub fn receive(
     at: usize,
 ) -> usize
     requires { ⌜ (16 ≤ length (now command)) × (16 + 8 * getD (now command) 15 0 ≤ length (now command)) × (at + 300 ≤ length (now out)) ⌝ }
-    ensures { λ r. ⌜ Answered (now (out .entry)) at (now (out .exit)) r ⌝ }
+    ensures { λ r. ⌜ Appended (now (out .entry)) at (now (out .exit)) r (answerLine 20 (answer (receptionVerdict (now (settings .entry)) (now (meters .entry)) (now (readings .entry)) (receptionOf (now (command .entry)))) accepted)) ⌝ }
+    ensures { λ r. ⌜ now (readings .exit) ≡ left (receptionVerdict (now (settings .entry)) (now (meters .entry)) (now (readings .entry)) (receptionOf (now (command .entry)))) (now (readings .entry)) (receivedReadings (now (settings .entry)) (now (meters .entry)) (now (readings .entry)) (receptionOf (now (command .entry)))) ⌝ }
+    ensures { λ r. ⌜ r ≤ at + 300 ⌝ }
 {
     let given = reception_at(command);
     let mut body = [0u8; 1785];
@@ -170,7 +180,9 @@ pub fn run(
     at: usize,
 ) -> usize
     requires { ⌜ (3 ≤ length (now command)) × (at + 300 ≤ length (now out)) ⌝ }
-    ensures { λ r. ⌜ Answered (now (out .entry)) at (now (out .exit)) r ⌝ }
+    ensures { λ r. ⌜ Appended (now (out .entry)) at (now (out .exit)) r (answerLine 22 (answer (runVerdict (now (settings .entry)) (now (meters .entry)) (now (readings .entry)) (now (cells .entry)) (operand runWidths 0 (now (command .entry)))) (moved (ranFrom (now (settings .entry)) (now (meters .entry)) (now (readings .entry)) (now (cells .entry)) (operand runWidths 0 (now (command .entry))) .moved)))) ⌝ }
+    ensures { λ r. ⌜ now (cells .exit) ≡ left (runVerdict (now (settings .entry)) (now (meters .entry)) (now (readings .entry)) (now (cells .entry)) (operand runWidths 0 (now (command .entry)))) (now (cells .entry)) (ranFrom (now (settings .entry)) (now (meters .entry)) (now (readings .entry)) (now (cells .entry)) (operand runWidths 0 (now (command .entry))) .cells) ⌝ }
+    ensures { λ r. ⌜ r ≤ at + 300 ⌝ }
 {
     let outcome = shapes::run(settings, meters, readings, cells, two(command, 1));
     append_run(out, at, outcome)
@@ -178,7 +190,8 @@ pub fn run(
 
 pub fn totals(command: &[u8], settings: &[u8], cells: &[u64], out: &mut [u8], at: usize) -> usize
     requires { ⌜ (4 ≤ length (now command)) × (at + 300 ≤ length (now out)) ⌝ }
-    ensures { λ r. ⌜ Answered (now (out .entry)) at (now (out .exit)) r ⌝ }
+    ensures { λ r. ⌜ Appended (now (out .entry)) at (now (out .exit)) r (answerLine 23 (answer (totalsVerdict (now (settings .entry)) (now (cells .entry)) (operand totalsWidths 0 (now (command .entry))) (operand totalsWidths 1 (now (command .entry)))) (totalsAre (totalsFor (now (settings .entry)) (now (cells .entry)) (operand totalsWidths 0 (now (command .entry))) (operand totalsWidths 1 (now (command .entry))))))) ⌝ }
+    ensures { λ r. ⌜ r ≤ at + 300 ⌝ }
 {
     let outcome = reports::read_totals(settings, cells, two(command, 1), one(command, 3));
     append_totals(out, at, outcome)
@@ -186,7 +199,8 @@ pub fn totals(command: &[u8], settings: &[u8], cells: &[u64], out: &mut [u8], at
 
 pub fn cell(command: &[u8], settings: &[u8], cells: &[u64], out: &mut [u8], at: usize) -> usize
     requires { ⌜ (5 ≤ length (now command)) × (at + 300 ≤ length (now out)) ⌝ }
-    ensures { λ r. ⌜ Answered (now (out .entry)) at (now (out .exit)) r ⌝ }
+    ensures { λ r. ⌜ Appended (now (out .entry)) at (now (out .exit)) r (answerLine 24 (answer (cellVerdict (now (settings .entry)) (now (cells .entry)) (operand cellWidths 0 (now (command .entry))) (operand cellWidths 1 (now (command .entry))) (operand cellWidths 2 (now (command .entry)))) (cellIs (cellFor (now (settings .entry)) (now (cells .entry)) (operand cellWidths 0 (now (command .entry))) (operand cellWidths 1 (now (command .entry))) (operand cellWidths 2 (now (command .entry))))))) ⌝ }
+    ensures { λ r. ⌜ r ≤ at + 300 ⌝ }
 {
     let outcome = reports::read_cell(
         settings,

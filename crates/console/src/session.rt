@@ -9,8 +9,11 @@ ghost use mathlib.Core.Path.{_≡_};
 ghost use Prim.Native.Nat.{_+_, _≤_};
 ghost use lib.ListN.{length, take, drop, getD};
 ghost use Rattle.commands.specs.Form.{Command};
-ghost use Rattle.console.specs.Parts.{Answered};
-ghost use Rattle.console.specs.Session.{Window, Held, Room};
+ghost use Rattle.ledger.specs.Engine.{callAnswer};
+ghost use Rattle.answers.specs.Text.{Appended};
+ghost use Rattle.answers.specs.Lines.{answerLine};
+ghost use Rattle.console.specs.Commands.{partsOf, most, code, callOf, callLeaves, lineFor, stateAfter};
+ghost use Rattle.console.specs.Session.{Window, Held, Room, RoomFor, Printed, stateOf};
 
 // The input block's next byte and the one past its last; how much of the lent category records
 // and day types is collected; how much of the output block waits; whether the dialogue is over.
@@ -26,7 +29,7 @@ pub struct Session {
 // A line is shorter than 300 bytes: room for one, by writing out what waits.
 fn with_room(output: &[u8], waiting: usize) -> usize
     requires { ⌜ (waiting ≤ length (now output)) × (300 ≤ length (now output)) ⌝ }
-    ensures { λ r. ⌜ r + 300 ≤ length (now (output .entry)) ⌝ }
+    ensures { λ r. ⌜ RoomFor waiting (length (now (output .entry))) r ⌝ }
 {
     if output.len() - waiting < 300 {
         io::write_all(STDOUT_FILENO, &output[..waiting]);
@@ -96,7 +99,9 @@ fn ask(
 ) -> usize
     requires { ⌜ Command (now command) × (at + 300 ≤ length (now output)) ⌝ }
     requires { ⌜ (getD (now command) 0 0 ≡ 16 → ⊥) × (getD (now command) 0 0 ≡ 17 → ⊥) × (getD (now command) 0 0 ≡ 18 → ⊥) ⌝ }
-    ensures { λ r. ⌜ Answered (now (output .entry)) at (now (output .exit)) r ⌝ }
+    ensures { λ r. ⌜ Appended (now (output .entry)) at (now (output .exit)) r (answerLine (code (now (command .entry))) (callAnswer (partsOf (now (settings .entry)) (now (meters .entry)) (now (readings .entry)) (now (cells .entry))) (callOf (now (command .entry))))) ⌝ }
+    ensures { λ r. ⌜ partsOf (now (settings .entry)) (now (meters .exit)) (now (readings .exit)) (now (cells .exit)) ≡ callLeaves (partsOf (now (settings .entry)) (now (meters .entry)) (now (readings .entry)) (now (cells .entry))) (callOf (now (command .entry))) ⌝ }
+    ensures { λ r. ⌜ r ≤ at + 300 ⌝ }
 {
     let code = command[0];
     match code {
@@ -135,6 +140,8 @@ fn obey(
     requires { ⌜ Room session (getD (now command) 0 0) (length (now «category_records»)) (length (now «day_types»)) ⌝ }
     ensures { λ r. ⌜ Held r (length (now (output .entry))) (length (now («category_records» .entry))) (length (now («day_types» .entry))) ⌝ }
     ensures { λ r. ⌜ (r .at ≡ session .at) × (r .end ≡ session .end) ⌝ }
+    ensures { λ r. ⌜ stateOf r (now («category_records» .exit)) (now («day_types» .exit)) (now (settings .exit)) (now (meters .exit)) (now (readings .exit)) (now (cells .exit)) ≡ stateAfter (most «most_meters» «most_date_periods») (stateOf session (now («category_records» .entry)) (now («day_types» .entry)) (now (settings .entry)) (now (meters .entry)) (now (readings .entry)) (now (cells .entry))) (now (command .entry)) ⌝ }
+    ensures { λ r. ⌜ Printed (take (session .waiting) (now (output .entry))) (lineFor (most «most_meters» «most_date_periods») (stateOf session (now («category_records» .entry)) (now («day_types» .entry)) (now (settings .entry)) (now (meters .entry)) (now (readings .entry)) (now (cells .entry))) (now (command .entry))) (take (r .waiting) (now (output .exit))) ⌝ }
 {
     let mut next = session;
     let code = command[0];

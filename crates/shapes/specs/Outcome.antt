@@ -3,6 +3,6 @@ use Rattle.ledger.specs.Ledger.{Answer, moved, refused}
 use Rattle.shapes.specs.declared.RunOutcome.{RunOutcome}
 use Rattle.shapes.specs.declared.RunOutcome.the-variants.{Moved, Refused}
 
-abbrev pub answerOf : RunOutcome → Answer
-answerOf (Moved m) = moved m
-answerOf (Refused n p) = refused n p
+abbrev pub runAnswer : RunOutcome → Answer
+runAnswer (Moved m) = moved m
+runAnswer (Refused n p) = refused n p

@@ -19,7 +19,7 @@ ghost use Rattle.ledger.specs.Store.{settingsReady, metersReady, readingsReady,
 ghost use Rattle.ledger.specs.Table.{tabulate};
 ghost use Rattle.ledger.specs.Calls.{rowAt, putRow, seen, differing, runVerdict, ranFrom};
 ghost use Rattle.tally.specs.Sums.{Bounded, rowFrom};
-ghost use Rattle.shapes.specs.Outcome.{answerOf};
+ghost use Rattle.shapes.specs.Outcome.{runAnswer};
 ghost use Rattle.shapes.specs.Walk.{settled};
 
 pub enum RunOutcome {
@@ -146,7 +146,7 @@ pub fn run(
     cells: &mut [u64],
     date: u64,
 ) -> RunOutcome
-    ensures { λ r. ⌜ answerOf r ≡ answer (runVerdict (now (settings .entry)) (now (meters .entry)) (now (readings .entry)) (now (cells .entry)) date) (moved (ranFrom (now (settings .entry)) (now (meters .entry)) (now (readings .entry)) (now (cells .entry)) date .moved)) ⌝ }
+    ensures { λ r. ⌜ runAnswer r ≡ answer (runVerdict (now (settings .entry)) (now (meters .entry)) (now (readings .entry)) (now (cells .entry)) date) (moved (ranFrom (now (settings .entry)) (now (meters .entry)) (now (readings .entry)) (now (cells .entry)) date .moved)) ⌝ }
     ensures { λ r. ⌜ now (cells .exit) ≡ left (runVerdict (now (settings .entry)) (now (meters .entry)) (now (readings .entry)) (now (cells .entry)) date) (now (cells .entry)) (ranFrom (now (settings .entry)) (now (meters .entry)) (now (readings .entry)) (now (cells .entry)) date .cells) ⌝ }
 {
     let number = run_number(settings, meters, readings, &cells[..], date);

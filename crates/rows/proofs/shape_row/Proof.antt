@@ -25,6 +25,12 @@ loop-holds c = (omega arith, refl, sym (filling-zero _ _), sym (differing-zero _
 add-k : tie.Need-add-k Inv-loop μ-loop
 add-k c = omega arith
 
+mul-old : tie.Need-mul-old Inv-loop μ-loop
+mul-old c = omega arith
+
+slice-read-old : tie.Need-slice-read-old Inv-loop μ-loop
+slice-read-old c = omega arith
+
 mul-shape-entry : tie.Need-mul-shape-entry Inv-loop μ-loop
 mul-shape-entry c = omega arith
 
@@ -57,15 +63,9 @@ shared-slice-read-shape-entry-5 c = omega arith
 
 shape-entry-requires : tie.Need-shape-entry-requires Inv-loop μ-loop
 shape-entry-requires c κs =
-    let s = c .before .before .before .before .before .before .before .before .before .before .before .before .before in
-    let p = c .before .before .before .before .before .before .loop .p in
+    let s = c .before .before .before .before .before .before .before .before .before .before .before .before .before .before in
+    let p = c .before .before .before .before .before .before .before .loop .p in
     (s .pre .0 .0, (s .pre .1 .0 p (omega arith), s .pre .1 .1 p (omega arith)))
-
-mul-seen-entry : tie.Need-mul-seen-entry Inv-loop μ-loop
-mul-seen-entry c = omega arith
-
-slice-read-seen-entry : tie.Need-slice-read-seen-entry Inv-loop μ-loop
-slice-read-seen-entry c = omega arith
 
 seen-entry-requires : tie.Need-seen-entry-requires Inv-loop μ-loop
 seen-entry-requires c κs = search needs
@@ -97,7 +97,7 @@ loop-again c =
     let l = c .before .before .before .before .before .before .before .before .before .before .loop in
     let s = c .before .before .before .before .before .before .before .before .before .before .before .before .before .before .before .before .before in
     let old : getD (l .row) (l .p) 0 ≡ getD (s .args .row .now) (l .p) 0 = unfilled _ _ (l .row) (l .p) (l .inv .2) (omega arith) in
-    let new = c .before .before .before .shape-entry .ensures in (
+    let new = c .before .before .shape-entry .ensures in (
       omega arith,
       simp length-set (omega arith),
       fill _ _ (l .row) (l .p) _ (l .inv .2) (omega arith) new,
@@ -122,6 +122,8 @@ shape-row-spec =
     μ-loop
     loop-holds
     add-k
+    mul-old
+    slice-read-old
     mul-shape-entry
     shared-slice-read-shape-entry
     mul-shape-entry-2
@@ -133,8 +135,6 @@ shape-row-spec =
     mul-shape-entry-5
     shared-slice-read-shape-entry-5
     shape-entry-requires
-    mul-seen-entry
-    slice-read-seen-entry
     seen-entry-requires
     difference-requires
     add-moved

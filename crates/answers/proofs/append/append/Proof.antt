@@ -4,35 +4,25 @@ use Rattle.answers.proofs.Laws.{part-appended}
 use borrow.Author.Needs.{needs}
 use Rattle.answers.proofs.append.append.Statement.{statement}
 use Rattle.answers.proofs.append.append.Tie as tie
-use Rattle.answers.proofs.append.append.Reads as reads
-use Rattle.answers.proofs.append.append.Lts as lts
-use Rattle.bytes.proofs.copy.Reads as copy-reads
 
--- src/append.rt:11:28
 sub-copy : tie.Need-sub-copy
 sub-copy c = search needs
 
--- src/append.rt:11:28
 part-copy-start : tie.Need-part-copy-start
 part-copy-start c = search needs
 
--- src/append.rt:11:28
 part-copy-end : tie.Need-part-copy-end
 part-copy-end c = search needs
 
--- src/append.rt:11:10
 copy-requires : tie.Need-copy-requires
 copy-requires c κs = search needs
 
--- src/append.rt:11:5
 add-result : tie.Need-add-result
 add-result c = search needs
 
--- src/append.rt:7:1
 same-length : tie.Need-same-length
 same-length c = search needs
 
--- src/append.rt:7:1
 returns : tie.Need-returns
 returns c =
     let a = c .before .before .before .before .before .before .args in

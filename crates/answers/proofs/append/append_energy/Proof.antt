@@ -7,29 +7,19 @@ use Rattle.answers.proofs.Laws.{join, behind-blank, energy-reads-back}
 use borrow.Author.Needs.{needs}
 use Rattle.answers.proofs.append.append_energy.Statement.{statement}
 use Rattle.answers.proofs.append.append_energy.Tie as tie
-use Rattle.answers.proofs.append.append_energy.Reads as reads
-use Rattle.answers.proofs.append.append_energy.Lts as lts
-use Rattle.answers.proofs.append.append_byte.Reads as append-byte-reads
-use Rattle.answers.proofs.append.append_number.Reads as append-number-reads
-use Rattle.answers.proofs.append.append_thousandths.Reads as append-thousandths-reads
 
--- src/append.rt:51:9
 append-number-requires : tie.Need-append-number-requires
 append-number-requires c κs = search needs
 
--- src/append.rt:52:9
 append-byte-requires : tie.Need-append-byte-requires
 append-byte-requires c κs = search needs
 
--- src/append.rt:53:5
 append-thousandths-requires : tie.Need-append-thousandths-requires
 append-thousandths-requires c κs = search needs
 
--- src/append.rt:46:1
 same-length : tie.Need-same-length
 same-length c = search needs
 
--- src/append.rt:46:1
 returns : tie.Need-returns
 unfolding energyText
 returns c =

@@ -4,40 +4,28 @@ use Rattle.answers.proofs.Laws.{join, digits-bound, number-appended}
 use borrow.Author.Needs.{needs}
 use Rattle.answers.proofs.append.append_number.Statement.{statement}
 use Rattle.answers.proofs.append.append_number.Tie as tie
-use Rattle.answers.proofs.append.append_number.Reads as reads
-use Rattle.answers.proofs.append.append_number.Lts as lts
-use Rattle.answers.proofs.append.append.Reads as append-reads
-use Rattle.answers.proofs.append.append_byte.Reads as append-byte-reads
-use Rattle.io.proofs.decimal.Reads as decimal-reads
 
--- src/append.rt:29:9
 decimal-requires : tie.Need-decimal-requires
 decimal-requires c κs = search needs
 
--- src/append.rt:30:9
 append-byte-requires : tie.Need-append-byte-requires
 append-byte-requires c κs = search needs
 
--- src/append.rt:31:23
 array-share-prefix-digits : tie.Need-array-share-prefix-digits
 array-share-prefix-digits c = search needs
 
--- src/append.rt:31:23
 slice-aggregate-append : tie.Need-slice-aggregate-append
 slice-aggregate-append c = search needs
 
--- src/append.rt:31:5
 append-requires : tie.Need-append-requires
 append-requires c κs =
     let made = c .before .before .before .before .before .before .decimal .ensures in
     let fits : c .before .before .before .before .before .before .before .before .before .args .number < 18446744073709551616 = omega (arith, c .before .before .before .before .before .before .before .before .before .fits .number) in
     omega (arith, digits-bound _ _ fits (made .1 .0), made .0 .1, c .before .before .before .before .append-byte .ensures .end)
 
--- src/append.rt:23:1
 same-length : tie.Need-same-length
 same-length c = search needs
 
--- src/append.rt:23:1
 returns : tie.Need-returns
 returns c =
     let made = c .before .before .before .before .before .before .before .before .before .decimal .ensures in

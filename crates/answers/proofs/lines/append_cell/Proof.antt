@@ -1,57 +1,41 @@
 use native.Mathlib.Omega.{arith}
 use Rattle.answers.proofs.Laws.{join}
-use Rattle.answers.specs.Lines.{cellLine}
+use Rattle.answers.specs.Lines.{answerLine}
 use borrow.Author.Needs.{needs}
 use Rattle.answers.proofs.lines.append_cell.Statement.{statement}
 use Rattle.answers.proofs.lines.append_cell.Tie as tie
-use Rattle.answers.proofs.lines.append_cell.Reads as reads
-use Rattle.answers.proofs.lines.append_cell.Lts as lts
-use Rattle.answers.proofs.append.append_byte.Reads as append-byte-reads
-use Rattle.answers.proofs.lines.append_accepted.Reads as append-accepted-reads
-use Rattle.answers.proofs.lines.append_fields.Reads as append-fields-reads
-use Rattle.answers.proofs.lines.append_refused.Reads as append-refused-reads
 
--- src/lines.rt:122:27
 enum-known-outcome : tie.Need-enum-known-outcome
 enum-known-outcome c = search needs
 
--- src/lines.rt:123:17
 append-accepted-requires : tie.Need-append-accepted-requires
 append-accepted-requires c κs = search needs
 
--- src/lines.rt:124:13
 append-fields-requires : tie.Need-append-fields-requires
 append-fields-requires c κs = search needs
 
--- src/lines.rt:125:13
 append-byte-requires : tie.Need-append-byte-requires
 append-byte-requires c κs = search needs
 
--- src/lines.rt:127:32
 enum-known-outcome-2 : tie.Need-enum-known-outcome-2
 enum-known-outcome-2 c = search needs
 
--- src/lines.rt:127:51
 append-refused-requires : tie.Need-append-refused-requires
 append-refused-requires c κs = search needs
 
--- src/lines.rt:120:1
 same-length : tie.Need-same-length
 same-length c = search needs
 
--- src/lines.rt:120:1
 returns : tie.Need-returns
-unfolding cellLine
+unfolding answerLine
 returns c =
     rw (c .before .before .before .before .before .before .before .before .before .before .before .before .before .outcome .given .1) (join (c .before .before .before .before .before .before .before .before .before .before .append-accepted .ensures) (join (c .before .before .before .before .before .before .append-fields .ensures .0) (c .before .before .append-byte .ensures)), omega arith)
 
--- src/lines.rt:120:1
 same-length-2 : tie.Need-same-length-2
 same-length-2 c = search needs
 
--- src/lines.rt:120:1
 returns-2 : tie.Need-returns-2
-unfolding cellLine
+unfolding answerLine
 returns-2 c =
     rw (c .before .before .before .before .before .outcome2 .given .1) (c .before .before .append-refused .ensures .0, omega arith)
 

@@ -3,45 +3,31 @@ use Rattle.answers.proofs.Laws.{join}
 use borrow.Author.Needs.{needs}
 use Rattle.answers.proofs.lines.append_figures.Statement.{statement}
 use Rattle.answers.proofs.lines.append_figures.Tie as tie
-use Rattle.answers.proofs.lines.append_figures.Reads as reads
-use Rattle.answers.proofs.lines.append_figures.Lts as lts
-use Rattle.answers.proofs.append.append_energy.Reads as append-energy-reads
-use Rattle.answers.proofs.append.append_number.Reads as append-number-reads
-use Rattle.answers.proofs.lines.append_energies.Reads as append-energies-reads
 
--- src/lines.rt:75:9
 append-energies-requires : tie.Need-append-energies-requires
 append-energies-requires c κs = search needs
 
--- src/lines.rt:76:5
 append-energies-requires-2 : tie.Need-append-energies-requires-2
 append-energies-requires-2 c κs = search needs
 
--- src/lines.rt:77:5
 append-number-requires : tie.Need-append-number-requires
 append-number-requires c κs = search needs
 
--- src/lines.rt:78:5
 append-energy-requires : tie.Need-append-energy-requires
 append-energy-requires c κs = search needs
 
--- src/lines.rt:79:5
 append-number-requires-2 : tie.Need-append-number-requires-2
 append-number-requires-2 c κs = search needs
 
--- src/lines.rt:80:5
 append-number-requires-3 : tie.Need-append-number-requires-3
 append-number-requires-3 c κs = search needs
 
--- src/lines.rt:81:5
 append-number-requires-4 : tie.Need-append-number-requires-4
 append-number-requires-4 c κs = search needs
 
--- src/lines.rt:74:1
 same-length : tie.Need-same-length
 same-length c = search needs
 
--- src/lines.rt:74:1
 returns : tie.Need-returns
 returns c =
     (join (c .before .before .before .before .before .before .before .before .before .before .before .before .before .before .before .before .before .before .before .before .before .before .before .before .before .before .append-energies .ensures .0) (join (c .before .before .before .before .before .before .before .before .before .before .before .before .before .before .before .before .before .before .before .before .before .before .append-energies2 .ensures .0) (join (c .before .before .before .before .before .before .before .before .before .before .before .before .before .before .before .before .before .before .append-number .ensures .0) (join (c .before .before .before .before .before .before .before .before .before .before .before .before .before .before .append-energy .ensures .0) (join (c .before .before .before .before .before .before .before .before .before .before .append-number2 .ensures .0) (join (c .before .before .before .before .before .before .append-number3 .ensures .0) (c .before .before .append-number4 .ensures .0)))))), omega arith)

@@ -1,52 +1,38 @@
 use native.Mathlib.Omega.{arith}
 use Rattle.answers.proofs.Laws.{join}
-use Rattle.answers.specs.Lines.{outcomeLine}
+use Rattle.answers.specs.Lines.{answerLine}
 use borrow.Author.Needs.{needs}
 use Rattle.answers.proofs.lines.append_outcome.Statement.{statement}
 use Rattle.answers.proofs.lines.append_outcome.Tie as tie
-use Rattle.answers.proofs.lines.append_outcome.Reads as reads
-use Rattle.answers.proofs.lines.append_outcome.Lts as lts
-use Rattle.answers.proofs.append.append_byte.Reads as append-byte-reads
-use Rattle.answers.proofs.lines.append_accepted.Reads as append-accepted-reads
-use Rattle.answers.proofs.lines.append_refused.Reads as append-refused-reads
 
--- src/lines.rt:49:40
 enum-told : tie.Need-enum-told
 enum-told c = search needs
 
--- src/lines.rt:49:17
 append-accepted-requires : tie.Need-append-accepted-requires
 append-accepted-requires c κs = search needs
 
--- src/lines.rt:50:13
 append-byte-requires : tie.Need-append-byte-requires
 append-byte-requires c κs = search needs
 
--- src/lines.rt:52:28
 enum-known-outcome : tie.Need-enum-known-outcome
 enum-known-outcome c = search needs
 
--- src/lines.rt:52:47
 append-refused-requires : tie.Need-append-refused-requires
 append-refused-requires c κs = search needs
 
--- src/lines.rt:46:1
 same-length : tie.Need-same-length
 same-length c = search needs
 
--- src/lines.rt:46:1
 returns : tie.Need-returns
-unfolding outcomeLine
+unfolding answerLine
 returns c =
     rw (c .before .before .before .before .before .before .before .before .enum-told .given .1) (join (c .before .before .before .before .before .before .append-accepted .ensures) (c .before .before .append-byte .ensures), omega arith)
 
--- src/lines.rt:46:1
 same-length-2 : tie.Need-same-length-2
 same-length-2 c = search needs
 
--- src/lines.rt:46:1
 returns-2 : tie.Need-returns-2
-unfolding outcomeLine
+unfolding answerLine
 returns-2 c =
     rw (c .before .before .before .before .before .outcome .given .1) (c .before .before .append-refused .ensures .0, omega arith)
 

@@ -3,42 +3,28 @@ use Rattle.answers.proofs.Laws.{join}
 use borrow.Author.Needs.{needs}
 use Rattle.answers.proofs.lines.append_refused.Statement.{statement}
 use Rattle.answers.proofs.lines.append_refused.Tie as tie
-use Rattle.answers.proofs.lines.append_refused.Reads as reads
-use Rattle.answers.proofs.lines.append_refused.Lts as lts
-use Rattle.answers.proofs.append.append.Reads as append-reads
-use Rattle.answers.proofs.append.append_byte.Reads as append-byte-reads
-use Rattle.answers.proofs.append.append_number.Reads as append-number-reads
-use Rattle.answers.proofs.lines.append_command.Reads as append-command-reads
 
--- src/lines.rt:39:9
 append-command-requires : tie.Need-append-command-requires
 append-command-requires c κs = search needs
 
--- src/lines.rt:40:30
 slice-aggregate-append : tie.Need-slice-aggregate-append
 slice-aggregate-append c = search needs
 
--- src/lines.rt:40:5
 append-requires : tie.Need-append-requires
 append-requires c κs = search needs
 
--- src/lines.rt:41:5
 append-number-requires : tie.Need-append-number-requires
 append-number-requires c κs = search needs
 
--- src/lines.rt:42:5
 append-number-requires-2 : tie.Need-append-number-requires-2
 append-number-requires-2 c κs = search needs
 
--- src/lines.rt:43:5
 append-byte-requires : tie.Need-append-byte-requires
 append-byte-requires c κs = search needs
 
--- src/lines.rt:34:1
 same-length : tie.Need-same-length
 same-length c = search needs
 
--- src/lines.rt:34:1
 returns : tie.Need-returns
 returns c =
     (join (c .before .before .before .before .before .before .before .before .before .before .before .before .before .before .before .before .before .before .before .append-command .ensures) (join (c .before .before .before .before .before .before .before .before .before .before .before .before .before .before .append .ensures) (join (c .before .before .before .before .before .before .before .before .before .before .append-number .ensures .0) (join (c .before .before .before .before .before .before .append-number2 .ensures .0) (c .before .before .append-byte .ensures)))), omega arith)

@@ -8,9 +8,6 @@ use Rattle.commands.specs.Operands.{bodyOf}
 use Rattle.console.proofs.Laws.{no-bodies, part-length, body-step}
 use Rattle.console.proofs.calls.gather.Statement.{statement}
 use Rattle.console.proofs.calls.gather.Tie as tie
-use Rattle.console.proofs.calls.gather.Reads as reads
-use Rattle.console.proofs.calls.gather.Lts as lts
-use Rattle.answers.proofs.append.append.Reads as append-reads
 
 abbrev Inv-loop : tie.InvT-loop
 Inv-loop command records body₀ from₀ to₀ taken₀ body from to taken =
@@ -20,48 +17,37 @@ Inv-loop command records body₀ from₀ to₀ taken₀ body from to taken =
 abbrev μ-loop : tie.MeasureT-loop
 μ-loop command records body₀ from₀ to₀ taken₀ body from to taken = records - taken
 
--- src/calls.rt:96:5
 loop-holds : tie.Need-loop-holds Inv-loop μ-loop
 loop-holds c = (sym (no-bodies _), search needs, search needs, search needs, search needs, search needs, search needs)
 
--- src/calls.rt:97:40
 add-append : tie.Need-add-append Inv-loop μ-loop
 add-append c = search needs
 
--- src/calls.rt:97:50
 add-append-2 : tie.Need-add-append-2 Inv-loop μ-loop
 add-append-2 c = search needs
 
--- src/calls.rt:97:31
 sub-append : tie.Need-sub-append Inv-loop μ-loop
 sub-append c = search needs
 
--- src/calls.rt:97:31
 part-append-start : tie.Need-part-append-start Inv-loop μ-loop
 part-append-start c = search needs
 
--- src/calls.rt:97:31
 part-append-end : tie.Need-part-append-end Inv-loop μ-loop
 part-append-end c = search needs
 
--- src/calls.rt:97:9
 append-requires : tie.Need-append-requires Inv-loop μ-loop
 append-requires c κs =
     omega (arith, part-length (now (c .before .before .before .before .before .before .args .command)) (c .before .before .before .loop .from) (omega arith))
 
--- src/calls.rt:98:9
 add-from : tie.Need-add-from Inv-loop μ-loop
 add-from c = search needs
 
--- src/calls.rt:99:9
 add-taken : tie.Need-add-taken Inv-loop μ-loop
 add-taken c = search needs
 
--- src/calls.rt:96:5
 loop-less : tie.Need-loop-less Inv-loop μ-loop
 loop-less c = search needs
 
--- src/calls.rt:96:5
 loop-again : tie.Need-loop-again Inv-loop μ-loop
 loop-again c =
     let l = c .before .before .before .before .before .before .loop in
@@ -76,11 +62,9 @@ loop-again c =
       search needs,
     )
 
--- src/calls.rt:89:1
 same-length : tie.Need-same-length Inv-loop μ-loop
 same-length c = search needs
 
--- src/calls.rt:89:1
 returns : tie.Need-returns Inv-loop μ-loop
 returns c =
     let l = c .before .loop in

@@ -1,23 +1,18 @@
 use native.Mathlib.Omega.{arith}
 use borrow.Author.Tests.{le-leb, lt-leb, eq-eqb, ne-eqb}
-use Rattle.console.specs.Parts.{partsSuffice}
+use Rattle.console.specs.Commands.{partsSuffice}
 use Rattle.console.proofs.Laws.{leb-quotient}
 use Rattle.console.proofs.calls.parts_suffice.Statement.{statement}
 use Rattle.console.proofs.calls.parts_suffice.Tie as tie
-use Rattle.console.proofs.calls.parts_suffice.Reads as reads
-use Rattle.console.proofs.calls.parts_suffice.Lts as lts
 
--- src/calls.rt:33:9
 returns : tie.Need-returns
 unfolding partsSuffice
 returns c = simp (lt-leb _ _ (c .if1 .taken))
 
--- src/calls.rt:36:9
 returns-2 : tie.Need-returns-2
 unfolding partsSuffice
 returns-2 c = simp (le-leb _ _ (c .before .if1 .left), eq-eqb _ _ (c .if2 .taken)) (leb-quotient 96 (c .before .before .args .dates) (c .before .before .args .most-date-periods) (omega arith))
 
--- src/calls.rt:23:1
 returns-3 : tie.Need-returns-3
 unfolding partsSuffice
 returns-3 c = simp (le-leb _ _ (c .before .if1 .left), ne-eqb _ _ (c .if2 .left)) (leb-quotient 48 (c .before .before .args .dates) (c .before .before .args .most-date-periods) (omega arith))

@@ -1,129 +1,125 @@
+use mathlib.Core.Path.{_≡_}
 use native.Mathlib.Omega.{arith}
-use Rattle.console.proofs.Laws.{some-there, registration-there, reception-there, records-there, run-there, totals-there, cell-code, cell-there}
+use denote.Ref.{now}
+use Rattle.console.specs.Commands.{code}
+use Rattle.console.proofs.Laws.{some-there, registration-there, reception-there, records-there, run-there, totals-there, cell-code, cell-there, registered, received, ran, totals-read, cell-read}
 use borrow.Author.Needs.{needs}
 use Rattle.console.proofs.session.ask.Statement.{statement}
 use Rattle.console.proofs.session.ask.Tie as tie
-use Rattle.console.proofs.session.ask.Reads as reads
-use Rattle.console.proofs.session.ask.Lts as lts
-use Rattle.console.proofs.calls.cell.Reads as cell-reads
-use Rattle.console.proofs.calls.receive.Reads as receive-reads
-use Rattle.console.proofs.calls.register.Reads as register-reads
-use Rattle.console.proofs.calls.run.Reads as run-reads
-use Rattle.console.proofs.calls.totals.Reads as totals-reads
 
--- src/session.rt:101:16
 shared-slice-read-code : tie.Need-shared-slice-read-code
 shared-slice-read-code c = some-there _ (c .before .before .before .before .before .before .before .pre .0 .0)
 
--- src/session.rt:103:17
 register-requires : tie.Need-register-requires
 register-requires c κs =
     let s = c .before .before .before .before .before .before .before .before .before .before .before in
     (registration-there _ (s .pre .0 .0) (c .before .before .before .match .keys1), omega (arith, s .pre .0 .1))
 
--- src/session.rt:104:17
 receive-requires : tie.Need-receive-requires
 receive-requires c κs =
     let s = c .before .before .before .before .before .before .before .before .before .before .before in
     let code = c .before .before .before .match .keys2 in
     (reception-there _ (s .pre .0 .0) code, records-there _ (s .pre .0 .0) code, omega (arith, s .pre .0 .1))
 
--- src/session.rt:105:17
 run-requires : tie.Need-run-requires
 run-requires c κs =
     let s = c .before .before .before .before .before .before .before .before .before .before .before .before in
     (run-there _ (s .pre .0 .0) (c .before .before .before .before .match .keys3), omega (arith, s .pre .0 .1))
 
--- src/session.rt:106:17
 totals-requires : tie.Need-totals-requires
 totals-requires c κs =
     let s = c .before .before .before .before .before .before .before .before .before .before in
     (totals-there _ (s .pre .0 .0) (c .before .before .match .keys4), omega (arith, s .pre .0 .1))
 
--- src/session.rt:107:14
-cell-requires : tie.Need-cell-requires
-cell-requires c κs =
+-- what is left is a cell read
+reads-cell : (c : tie.After-cell-arg2) → code (now (c .before .before .before .before .before .before .before .before .before .before .args .command)) ≡ 24
+reads-cell c =
     let s = c .before .before .before .before .before .before .before .before .before .before in
     let other = s .pre .1 in
     let rest = c .before .before .match .rest in
-    let code = cell-code _ (s .pre .0 .0 .known) (other .0) (other .1) (other .2) (rest .0 .0 .0 .1) (rest .0 .0 .1) (rest .0 .1) (rest .1) in
-    (cell-there _ (s .pre .0 .0) code, omega (arith, s .pre .0 .1))
+    cell-code _ (s .pre .0 .0 .known) (other .0) (other .1) (other .2) (rest .0 .0 .0 .1) (rest .0 .0 .1) (rest .0 .1) (rest .1)
 
--- src/session.rt:88:1
+cell-requires : tie.Need-cell-requires
+cell-requires c κs =
+    let s = c .before .before .before .before .before .before .before .before .before .before in
+    (cell-there _ (s .pre .0 .0) (reads-cell c), omega (arith, s .pre .0 .1))
+
 same-length : tie.Need-same-length
 same-length c = search needs
 
--- src/session.rt:88:1
 same-length-2 : tie.Need-same-length-2
 same-length-2 c = search needs
 
--- src/session.rt:88:1
 same-length-3 : tie.Need-same-length-3
 same-length-3 c = search needs
 
--- src/session.rt:88:1
 returns : tie.Need-returns
-returns c = search needs
+returns c =
+    let a = c .before .before .before .before .before .before .before .before .before .before .before .before .before .before .before .before .args in
+    let done = c .before .before .before .before .register .ensures in
+    let told = registered (now (a .settings)) (now (a .meters)) (now (a .readings)) (now (a .cells)) (now (a .command)) (now (a .output)) _ (a .at) _ _ (c .before .before .before .before .before .before .before .before .match .keys1) (done .0) (done .1 .0) in
+    (told .0, (told .1, done .1 .1))
 
--- src/session.rt:88:1
 same-length-4 : tie.Need-same-length-4
 same-length-4 c = search needs
 
--- src/session.rt:88:1
 same-length-5 : tie.Need-same-length-5
 same-length-5 c = search needs
 
--- src/session.rt:88:1
 same-length-6 : tie.Need-same-length-6
 same-length-6 c = search needs
 
--- src/session.rt:88:1
 returns-2 : tie.Need-returns-2
-returns-2 c = search needs
+returns-2 c =
+    let a = c .before .before .before .before .before .before .before .before .before .before .before .before .before .before .before .before .args in
+    let done = c .before .before .before .before .receive .ensures in
+    let told = received (now (a .settings)) (now (a .meters)) (now (a .readings)) (now (a .cells)) (now (a .command)) (now (a .output)) _ (a .at) _ _ (c .before .before .before .before .before .before .before .before .match .keys2) (done .0) (done .1 .0) in
+    (told .0, (told .1, done .1 .1))
 
--- src/session.rt:88:1
 same-length-7 : tie.Need-same-length-7
 same-length-7 c = search needs
 
--- src/session.rt:88:1
 same-length-8 : tie.Need-same-length-8
 same-length-8 c = search needs
 
--- src/session.rt:88:1
 same-length-9 : tie.Need-same-length-9
 same-length-9 c = search needs
 
--- src/session.rt:88:1
 same-length-10 : tie.Need-same-length-10
 same-length-10 c = search needs
 
--- src/session.rt:88:1
 returns-3 : tie.Need-returns-3
-returns-3 c = search needs
+returns-3 c =
+    let a = c .before .before .before .before .before .before .before .before .before .before .before .before .before .before .before .before .before .args in
+    let done = c .before .before .before .before .run .ensures in
+    let told = ran (now (a .settings)) (now (a .meters)) (now (a .readings)) (now (a .cells)) (now (a .command)) (now (a .output)) _ (a .at) _ _ (c .before .before .before .before .before .before .before .before .before .match .keys3) (done .0) (done .1 .0) in
+    (told .0, (told .1, done .1 .1))
 
--- src/session.rt:88:1
 same-length-11 : tie.Need-same-length-11
 same-length-11 c = search needs
 
--- src/session.rt:88:1
 same-length-12 : tie.Need-same-length-12
 same-length-12 c = search needs
 
--- src/session.rt:88:1
 returns-4 : tie.Need-returns-4
-returns-4 c = search needs
+returns-4 c =
+    let a = c .before .before .before .before .before .before .before .before .before .before .before .before .before .args in
+    let done = c .before .before .totals .ensures in
+    let told = totals-read (now (a .settings)) (now (a .meters)) (now (a .readings)) (now (a .cells)) (now (a .command)) (now (a .output)) _ (a .at) _ (c .before .before .before .before .before .match .keys4) (done .0) in
+    (told .0, (told .1, done .1))
 
--- src/session.rt:88:1
 same-length-13 : tie.Need-same-length-13
 same-length-13 c = search needs
 
--- src/session.rt:88:1
 same-length-14 : tie.Need-same-length-14
 same-length-14 c = search needs
 
--- src/session.rt:88:1
 returns-5 : tie.Need-returns-5
-returns-5 c = search needs
+returns-5 c =
+    let a = c .before .before .before .before .before .before .before .before .before .before .before .before .before .args in
+    let done = c .before .before .cell .ensures in
+    let told = cell-read (now (a .settings)) (now (a .meters)) (now (a .readings)) (now (a .cells)) (now (a .command)) (now (a .output)) _ (a .at) _ (reads-cell (c .before .before .before)) (done .0) in
+    (told .0, (told .1, done .1))
 
 pub ask-spec : {M : Type 1} → statement M
 ask-spec =

@@ -4,107 +4,76 @@ use lib.Seq.{length-take-le}
 use borrow.Author.Needs.{needs}
 use Rattle.console.proofs.session.refill.Statement.{statement}
 use Rattle.console.proofs.session.refill.Tie as tie
-use Rattle.console.proofs.session.refill.Reads as reads
-use Rattle.console.proofs.session.refill.Lts as lts
-use Rattle.console.proofs.session.append_bad.Reads as append-bad-reads
-use Rattle.console.proofs.session.shift.Reads as shift-reads
-use Rattle.io.proofs.count.Reads as count-reads
-use Rattle.io.proofs.write_all.Reads as write-all-reads
-use Rattle.libc.proofs.read.Reads as read-reads
 
--- src/session.rt:69:16
 sub-kept : tie.Need-sub-kept
 sub-kept c = search needs
 
--- src/session.rt:70:5
 shift-requires : tie.Need-shift-requires
 shift-requires c κs = search needs
 
--- src/session.rt:72:34
 slice-reshare-prefix-write-all : tie.Need-slice-reshare-prefix-write-all
 slice-reshare-prefix-write-all c = search needs
 
--- src/session.rt:72:34
 slice-aggregate-write-all : tie.Need-slice-aggregate-write-all
 slice-aggregate-write-all c = sym (length-take-le _ _ (omega (arith, c .before .before .before .before .before .before .before .before .pre)))
 
--- src/session.rt:72:5
 write-all-requires : tie.Need-write-all-requires
 write-all-requires c κs = search needs
 
--- src/session.rt:74:40
 sub-read : tie.Need-sub-read
 sub-read c = search needs
 
--- src/session.rt:74:40
 part-read-start : tie.Need-part-read-start
 part-read-start c = search needs
 
--- src/session.rt:74:40
 part-read-end : tie.Need-part-read-end
 part-read-end c = search needs
 
--- src/session.rt:74:9
 read-requires : tie.Need-read-requires
 read-requires c κs = search needs
 
--- src/session.rt:75:32
 sub-count : tie.Need-sub-count
 sub-count c = search needs
 
--- src/session.rt:75:32
 part-count-start : tie.Need-part-count-start
 part-count-start c = search needs
 
--- src/session.rt:75:32
 part-count-end : tie.Need-part-count-end
 part-count-end c = search needs
 
--- src/session.rt:75:9
 count-requires : tie.Need-count-requires
 count-requires c κs = search needs
 
--- src/session.rt:77:16
 add-next : tie.Need-add-next
 add-next c = search needs
 
--- src/session.rt:81:13
 append-bad-requires : tie.Need-append-bad-requires
 append-bad-requires c κs = search needs
 
--- src/session.rt:61:1
 same-length : tie.Need-same-length
 same-length c = search needs
 
--- src/session.rt:61:1
 same-length-2 : tie.Need-same-length-2
 same-length-2 c = search needs
 
--- src/session.rt:61:1
 returns : tie.Need-returns
 returns c = search needs
 
--- src/session.rt:61:1
 same-length-3 : tie.Need-same-length-3
 same-length-3 c = search needs
 
--- src/session.rt:61:1
 same-length-4 : tie.Need-same-length-4
 same-length-4 c = search needs
 
--- src/session.rt:61:1
 returns-2 : tie.Need-returns-2
 returns-2 c = search needs
 
--- src/session.rt:61:1
 same-length-5 : tie.Need-same-length-5
 same-length-5 c = search needs
 
--- src/session.rt:61:1
 same-length-6 : tie.Need-same-length-6
 same-length-6 c = search needs
 
--- src/session.rt:61:1
 returns-3 : tie.Need-returns-3
 returns-3 c = search needs
 

@@ -7,8 +7,6 @@ use lib.ListN.{length, take, drop, length-set}
 use Rattle.console.proofs.Laws.{shift-front, shift-rest}
 use Rattle.console.proofs.session.shift.Statement.{statement}
 use Rattle.console.proofs.session.shift.Tie as tie
-use Rattle.console.proofs.session.shift.Reads as reads
-use Rattle.console.proofs.session.shift.Lts as lts
 
 abbrev Inv-loop : tie.InvT-loop
 Inv-loop block₀ from count i₀ block i =
@@ -18,31 +16,24 @@ Inv-loop block₀ from count i₀ block i =
 abbrev μ-loop : tie.MeasureT-loop
 μ-loop block₀ from count i₀ block i = count - i
 
--- src/session.rt:44:5
 loop-holds : tie.Need-loop-holds Inv-loop μ-loop
 loop-holds c = (refl, refl, refl, search needs, search needs)
 
--- src/session.rt:45:26
 add-block : tie.Need-add-block Inv-loop μ-loop
 add-block c = search needs
 
--- src/session.rt:45:20
 slice-read-block : tie.Need-slice-read-block Inv-loop μ-loop
 slice-read-block c = search needs
 
--- src/session.rt:45:9
 slice-write-block : tie.Need-slice-write-block Inv-loop μ-loop
 slice-write-block c = search needs
 
--- src/session.rt:46:9
 add-i : tie.Need-add-i Inv-loop μ-loop
 add-i c = search needs
 
--- src/session.rt:44:5
 loop-less : tie.Need-loop-less Inv-loop μ-loop
 loop-less c = search needs
 
--- src/session.rt:44:5
 loop-again : tie.Need-loop-again Inv-loop μ-loop
 loop-again c =
     let l = c .before .before .loop in
@@ -55,11 +46,9 @@ loop-again c =
       omega arith,
     )
 
--- src/session.rt:39:1
 same-length : tie.Need-same-length Inv-loop μ-loop
 same-length c = search needs
 
--- src/session.rt:39:1
 returns : tie.Need-returns Inv-loop μ-loop
 returns c =
     let l = c .before .loop in

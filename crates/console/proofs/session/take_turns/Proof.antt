@@ -6,10 +6,6 @@ use Rattle.console.specs.Session.{Window, Held}
 use native.Mathlib.Omega.{arith}
 use Rattle.console.proofs.session.take_turns.Statement.{statement}
 use Rattle.console.proofs.session.take_turns.Tie as tie
-use Rattle.console.proofs.session.take_turns.Reads as reads
-use Rattle.console.proofs.session.take_turns.Lts as lts
-use Rattle.console.proofs.session.turn.Reads as turn-reads
-use Rattle.io.proofs.write_all.Reads as write-all-reads
 
 abbrev Inv-loop : tie.InvT-loop
 Inv-loop input₀ output₀ category-records₀ day-types₀ settings₀ meters₀ readings₀ cells₀ most-meters most-date-periods session₀ turns₀ input output category-records day-types settings meters readings cells session turns =
@@ -28,7 +24,6 @@ abbrev μ-loop : tie.MeasureT-loop
 μ-loop input₀ output₀ category-records₀ day-types₀ settings₀ meters₀ readings₀ cells₀ most-meters most-date-periods session₀ turns₀ input output category-records day-types settings meters readings cells session turns =
     turns
 
--- src/session.rt:240:5
 loop-holds : tie.Need-loop-holds Inv-loop μ-loop
 loop-holds c = (
   record { begun = search needs; block = search needs },
@@ -43,21 +38,17 @@ loop-holds c = (
   refl,
 )
 
--- src/session.rt:241:9
 turn-requires : tie.Need-turn-requires Inv-loop μ-loop
 turn-requires c κs =
     let inv = c .before .before .before .before .before .before .before .before .before .before .before .loop .inv in
     (rw (inv .2) (inv .0), rw (inv .3, inv .4, inv .5) (inv .1))
 
--- src/session.rt:254:9
 sub-turns : tie.Need-sub-turns Inv-loop μ-loop
 sub-turns c = omega (arith, c .before .before .before .before .before .before .before .before .before .before .before .before .before .before .before .before .before .before .before .before .before .before .before .before .before .before .before .loop-test)
 
--- src/session.rt:240:5
 loop-less : tie.Need-loop-less Inv-loop μ-loop
 loop-less c = omega (arith, c .before .before .before .before .before .before .before .before .before .before .before .before .before .before .before .before .before .before .before .before .before .before .before .before .before .before .before .loop-test)
 
--- src/session.rt:240:5
 loop-again : tie.Need-loop-again Inv-loop μ-loop
 loop-again c =
     let inv = c .before .before .before .before .before .before .before .before .before .before .before .before .before .before .before .before .before .before .before .before .before .before .before .before .before .before .before .before .loop .inv in
@@ -74,51 +65,39 @@ loop-again c =
       omega (arith, done .kept),
     )
 
--- src/session.rt:257:34
 slice-reshare-prefix-write-all : tie.Need-slice-reshare-prefix-write-all Inv-loop μ-loop
 slice-reshare-prefix-write-all c = omega (arith, c .before .loop .inv .1 .waiting, c .before .loop .inv .3)
 
--- src/session.rt:257:34
 slice-aggregate-write-all : tie.Need-slice-aggregate-write-all Inv-loop μ-loop
 slice-aggregate-write-all c = sym (length-take-le _ _ (omega (arith, c .before .before .loop .inv .1 .waiting, c .before .before .loop .inv .3)))
 
--- src/session.rt:257:5
 write-all-requires : tie.Need-write-all-requires Inv-loop μ-loop
 write-all-requires c κs = search needs
 
--- src/session.rt:217:1
 same-length : tie.Need-same-length Inv-loop μ-loop
 same-length c = c .before .before .before .loop .inv .2
 
--- src/session.rt:217:1
 same-length-2 : tie.Need-same-length-2 Inv-loop μ-loop
 same-length-2 c = c .before .before .before .loop .inv .3
 
--- src/session.rt:217:1
 same-length-3 : tie.Need-same-length-3 Inv-loop μ-loop
 same-length-3 c = c .before .before .before .loop .inv .4
 
--- src/session.rt:217:1
 same-length-4 : tie.Need-same-length-4 Inv-loop μ-loop
 same-length-4 c = c .before .before .before .loop .inv .5
 
--- src/session.rt:217:1
 same-length-5 : tie.Need-same-length-5 Inv-loop μ-loop
 same-length-5 c = c .before .before .before .loop .inv .6
 
--- src/session.rt:217:1
 same-length-6 : tie.Need-same-length-6 Inv-loop μ-loop
 same-length-6 c = c .before .before .before .loop .inv .7
 
--- src/session.rt:217:1
 same-length-7 : tie.Need-same-length-7 Inv-loop μ-loop
 same-length-7 c = c .before .before .before .loop .inv .8
 
--- src/session.rt:217:1
 same-length-8 : tie.Need-same-length-8 Inv-loop μ-loop
 same-length-8 c = c .before .before .before .loop .inv .9
 
--- src/session.rt:217:1
 returns : tie.Need-returns Inv-loop μ-loop
 returns c = search needs
 

@@ -12,12 +12,6 @@ use Rattle.console.proofs.Laws.{window-length, category-room, day-type-
 use borrow.Author.Needs.{needs}
 use Rattle.console.proofs.session.turn.Statement.{statement}
 use Rattle.console.proofs.session.turn.Tie as tie
-use Rattle.console.proofs.session.turn.Reads as reads
-use Rattle.console.proofs.session.turn.Lts as lts
-use Rattle.commands.proofs.extent.command_extent.Reads as command-extent-reads
-use Rattle.console.proofs.session.append_bad.Reads as append-bad-reads
-use Rattle.console.proofs.session.obey.Reads as obey-reads
-use Rattle.console.proofs.session.refill.Reads as refill-reads
 
 abbrev start : tie.After-found → tie.Start
 start c = c .before .before .before .before .before .before .before .before .before .before .before .before .before .before .before
@@ -39,47 +33,36 @@ within c =
     let w = start c .pre .0 in
     omega (arith, whole c .0, whole c .1 .whole, window-length (now (a .input)) (a .session .at) (a .session .end) (w .begun) (w .block))
 
--- src/session.rt:186:30
 sub-category-room : tie.Need-sub-category-room
 sub-category-room c = search needs
 
--- src/session.rt:188:32
 sub-command-extent : tie.Need-sub-command-extent
 sub-command-extent c = search needs
 
--- src/session.rt:188:32
 part-command-extent-start : tie.Need-part-command-extent-start
 part-command-extent-start c = search needs
 
--- src/session.rt:188:32
 part-command-extent-end : tie.Need-part-command-extent-end
 part-command-extent-end c = search needs
 
--- src/session.rt:188:9
 command-extent-requires : tie.Need-command-extent-requires
 command-extent-requires c κs = search needs
 
--- src/session.rt:190:23
 enum-known-found : tie.Need-enum-known-found
 enum-known-found c = search needs
 
--- src/session.rt:192:23
 add-next : tie.Need-add-next
 add-next c = omega (arith, within (c .before), start (c .before) .pre .0)
 
--- src/session.rt:195:17
 sub-obey : tie.Need-sub-obey
 sub-obey c = search needs
 
--- src/session.rt:195:17
 part-obey-start : tie.Need-part-obey-start
 part-obey-start c = search needs
 
--- src/session.rt:195:17
 part-obey-end : tie.Need-part-obey-end
 part-obey-end c = search needs
 
--- src/session.rt:193:13
 obey-requires : tie.Need-obey-requires
 obey-requires c κs =
     let f = c .before .before .before .before .before .before .before .before .before .before in
@@ -97,55 +80,42 @@ obey-requires c κs =
       ),
     )
 
--- src/session.rt:207:40
 enum-told : tie.Need-enum-told
 enum-told c = search needs
 
--- src/session.rt:207:24
 refill-requires : tie.Need-refill-requires
 refill-requires c κs = search needs
 
--- src/session.rt:209:17
 enum-told-2 : tie.Need-enum-told-2
 enum-told-2 c = search needs
 
--- src/session.rt:210:13
 append-bad-requires : tie.Need-append-bad-requires
 append-bad-requires c κs = search needs
 
--- src/session.rt:166:1
 same-length : tie.Need-same-length
 same-length c = search needs
 
--- src/session.rt:166:1
 same-length-2 : tie.Need-same-length-2
 same-length-2 c = search needs
 
--- src/session.rt:166:1
 same-length-3 : tie.Need-same-length-3
 same-length-3 c = search needs
 
--- src/session.rt:166:1
 same-length-4 : tie.Need-same-length-4
 same-length-4 c = search needs
 
--- src/session.rt:166:1
 same-length-5 : tie.Need-same-length-5
 same-length-5 c = search needs
 
--- src/session.rt:166:1
 same-length-6 : tie.Need-same-length-6
 same-length-6 c = search needs
 
--- src/session.rt:166:1
 same-length-7 : tie.Need-same-length-7
 same-length-7 c = search needs
 
--- src/session.rt:166:1
 same-length-8 : tie.Need-same-length-8
 same-length-8 c = search needs
 
--- src/session.rt:166:1
 returns : tie.Need-returns
 returns c =
     let f = c .before .before .before .before .before .before .before .before .before .before .before .before .before .before .before .before .before .before .before .before .before .before .before .before .before in
@@ -157,15 +127,12 @@ returns c =
       obeyed .0,
     )
 
--- src/session.rt:166:1
 same-length-9 : tie.Need-same-length-9
 same-length-9 c = search needs
 
--- src/session.rt:166:1
 same-length-10 : tie.Need-same-length-10
 same-length-10 c = search needs
 
--- src/session.rt:166:1
 returns-2 : tie.Need-returns-2
 returns-2 c =
     let held = c .before .before .before .before .before .before .before .before .before .before .before .before .before .before .before .before .before .before .before .before .before .before .pre .1 in
@@ -179,15 +146,12 @@ returns-2 c =
       },
     )
 
--- src/session.rt:166:1
 same-length-11 : tie.Need-same-length-11
 same-length-11 c = search needs
 
--- src/session.rt:166:1
 same-length-12 : tie.Need-same-length-12
 same-length-12 c = search needs
 
--- src/session.rt:166:1
 returns-3 : tie.Need-returns-3
 returns-3 c = search needs
 

@@ -1,0 +1,133 @@
+-- What each command asks of the store, prints and leaves.
+use Prim.Native.Nat.{ℕ, _*_}
+use mathlib.Core.Bool.{Bool, false, cond}
+use mathlib.Core.List.{List, [], _++_}
+use lib.ListN.{length, take, drop, getD}
+use lib.Dec.{leb, eqb}
+use Rattle.ledger.specs.Checks.{RegistrationCall, ReceptionCall}
+use Rattle.ledger.specs.Ledger.{Call, register, receive, run, readTotals, readCell, Answer, accepted, answer, left}
+use Rattle.ledger.specs.Calls.{OpeningCall, openingVerdict, openedSettings, openedMeters, openedReadings, openedCells}
+use Rattle.ledger.specs.Engine.{Parts, callAnswer, metersAfter, readingsAfter, cellsAfter}
+use Rattle.commands.specs.Operands.{operand, openingAt, registrationAt, receptionAt, bodyOf, runWidths, totalsWidths, cellWidths}
+use Rattle.answers.specs.Lines.{answerLine}
+
+abbrev pub partsOf : List ℕ → List ℕ → List ℕ → List ℕ → Parts
+partsOf settings meters readings cells = record { settings = settings; meters = meters; readings = readings; cells = cells }
+
+-- the program between two commands: the 11s and 12s collected for the next opening, and the store
+pub record State : Type 0 where
+  pub categoryBytes : List ℕ
+  pub dayTypes : List ℕ
+  pub parts : Parts
+
+-- the most meters and date-periods that the program has parts for
+pub record Most : Type 0 where
+  pub meters : ℕ
+  pub datePeriods : ℕ
+
+abbrev pub most : ℕ → ℕ → Most
+most meters datePeriods = record { meters = meters; datePeriods = datePeriods }
+
+abbrev pub code : List ℕ → ℕ
+code command = getD command 0 0
+
+-- ---- openings
+
+abbrev pub openingOf : List ℕ → List ℕ → List ℕ → OpeningCall
+openingOf command categoryBytes dayTypes =
+    record {
+      duration = openingAt command .duration;
+      meters = openingAt command .meters;
+      categoryBytes = categoryBytes;
+      dayTypes = dayTypes;
+    }
+
+-- 15 minutes make 96 periods a day, 30 make 48
+unfoldable pub partsSuffice : Most → ℕ → ℕ → ℕ → Bool
+partsSuffice m duration meters dates =
+    cond (leb meters (m .meters)) (leb (dates * cond (eqb duration 15) 96 48) (m .datePeriods)) false
+
+abbrev pub sufficesFor : Most → OpeningCall → Bool
+sufficesFor m a = partsSuffice m (a .duration) (a .meters) (length (a .dayTypes))
+
+-- an opening that the parts do not suffice for is lent empty ones
+abbrev pub lent : Bool → List ℕ → List ℕ
+lent suffices part = cond suffices part []
+
+unfoldable pub openingAnswer : Bool → Parts → OpeningCall → Answer
+openingAnswer suffices p a =
+    answer (openingVerdict (lent suffices (p .settings)) (lent suffices (p .meters)) (lent suffices (p .readings)) (lent suffices (p .cells)) a) accepted
+
+-- and leaves the program's as they were
+unfoldable pub openingLeaves : Bool → Parts → OpeningCall → Parts
+openingLeaves suffices p a =
+    let verdict = openingVerdict (p .settings) (p .meters) (p .readings) (p .cells) a in
+    record {
+      settings = cond suffices (left verdict (p .settings) (openedSettings a (p .settings))) (p .settings);
+      meters = cond suffices (left verdict (p .meters) (openedMeters a (p .meters))) (p .meters);
+      readings = cond suffices (left verdict (p .readings) (openedReadings a (p .readings))) (p .readings);
+      cells = cond suffices (left verdict (p .cells) (openedCells a (p .cells))) (p .cells);
+    }
+
+-- ---- the calls of an opened store
+
+abbrev pub registrationOf : List ℕ → RegistrationCall
+registrationOf command =
+    let given = registrationAt command in
+    record {
+      mpan = given .mpan;
+      date = given .date;
+      minute = given .minute;
+      category = given .category;
+      sender = given .sender;
+      status = given .status;
+      limit = given .limit;
+    }
+
+abbrev pub receptionOf : List ℕ → ReceptionCall
+receptionOf command =
+    let given = receptionAt command in
+    record {
+      sender = given .sender;
+      mpan = given .mpan;
+      date = given .date;
+      duration = given .duration;
+      quantity = given .quantity;
+      body = bodyOf (given .records) command;
+    }
+
+-- the call that a command makes; codes in hex are 13, 14, 16, 17, 18
+unfoldable pub callOf : List ℕ → Call
+callOf command =
+    cond (eqb (code command) 19) (register (registrationOf command))
+    (cond (eqb (code command) 20) (receive (receptionOf command))
+    (cond (eqb (code command) 22) (run (operand runWidths 0 command))
+    (cond (eqb (code command) 23) (readTotals (operand totalsWidths 0 command) (operand totalsWidths 1 command))
+    (readCell (operand cellWidths 0 command) (operand cellWidths 1 command) (operand cellWidths 2 command)))))
+
+abbrev pub callLeaves : Parts → Call → Parts
+callLeaves p call =
+    record { settings = p .settings; meters = metersAfter p call; readings = readingsAfter p call; cells = cellsAfter p call }
+
+-- ---- all commands
+
+-- the line that a command prints; 11 and 12 print nothing
+unfoldable pub lineFor : Most → State → List ℕ → List ℕ
+lineFor m s command =
+    let a = openingOf command (s .categoryBytes) (s .dayTypes) in
+    cond (eqb (code command) 17) []
+    (cond (eqb (code command) 18) []
+    (cond (eqb (code command) 16) (answerLine 16 (openingAnswer (sufficesFor m a) (s .parts) a))
+    (answerLine (code command) (callAnswer (s .parts) (callOf command)))))
+
+-- a 10 uses up what is collected, whatever it answers
+unfoldable pub stateAfter : Most → State → List ℕ → State
+stateAfter m s command =
+    let a = openingOf command (s .categoryBytes) (s .dayTypes) in
+    cond (eqb (code command) 17)
+    (record { categoryBytes = s .categoryBytes ++ take 8 (drop 1 command); dayTypes = s .dayTypes; parts = s .parts })
+    (cond (eqb (code command) 18)
+    (record { categoryBytes = s .categoryBytes; dayTypes = s .dayTypes ++ take 1 (drop 1 command); parts = s .parts })
+    (cond (eqb (code command) 16)
+    (record { categoryBytes = []; dayTypes = []; parts = openingLeaves (sufficesFor m a) (s .parts) a })
+    (record { categoryBytes = s .categoryBytes; dayTypes = s .dayTypes; parts = callLeaves (s .parts) (callOf command) })))

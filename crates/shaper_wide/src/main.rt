@@ -1,0 +1,20 @@
+// The command program with parts for 8 categories, 8 meters and 370 dates of 96 periods, for what
+// the standard ones have no room for.
+fn main() {
+    let mut category_records = [0u8; 64];
+    let mut day_types = [0u8; 370];
+    let mut settings = [0u8; 442];
+    let mut meters = [0u64; 328];
+    let mut readings = [0u64; 287120];
+    let mut cells = [0u64; 284160];
+    console::converse(
+        &mut category_records,
+        &mut day_types,
+        &mut settings,
+        &mut meters,
+        &mut readings,
+        &mut cells,
+        8,
+        35520,
+    );
+}

@@ -1,0 +1,138 @@
+"""The fixed streams of the command programs, and what the programs must answer.
+
+    python3 fixed_streams.py DIRECTORY
+
+Writes NAME/stdin and NAME/stdout into DIRECTORY for shaper (the paper's worked
+example), shaper_late_day, shaper_refusals and shaper_wide. The answers are the
+plain ledger's.
+"""
+
+import pathlib
+import sys
+
+from program import PROFILES, run as answer
+from streams import command, valid_mpan
+from worked_example import INPUT
+
+FIRST, SECOND, THIRD, FOURTH, FIFTH = (valid_mpan(first) for first in
+                                       (10 ** 11, 101 * 10 ** 9, 1, 2, 3))
+LIMIT = 10000
+
+
+def open_store(categories, day_types, duration=30, meters=4):
+    return (b''.join(b'\x11' + bytes(record) for record in categories)
+            + b''.join(bytes((0x12, day_type)) for day_type in day_types)
+            + command(0x10, duration, 1, meters, 2))
+
+
+def register(mpan, date=0, minute=0, category=0, sender=7, status=1, limit=LIMIT):
+    return command(0x13, mpan, 8, date, 2, minute, 2, category, 1, sender, 2, status, 1, limit, 4)
+
+
+def receive(mpan, date, records, sender=7, duration=30, quantity=1):
+    """A meter day of records (end minute, quality, Wh)."""
+    return (command(0x14, sender, 2, mpan, 8, date, 2, duration, 1, quantity, 1, len(records), 1)
+            + b''.join(command(0x15, end, 2, quality, 1, wh, 4) for end, quality, wh in records))
+
+
+def whole_day(wh, quality=1, duration=30):
+    return [(end, quality, wh) for end in range(duration, 1441, duration)]
+
+
+def run(date):
+    return command(0x16, date, 2)
+
+
+def totals(date, category=0):
+    return command(0x17, date, 2, category, 1)
+
+
+def cell(date, category=0, period=1):
+    return command(0x18, date, 2, category, 1, period, 1)
+
+
+def look(dates, category=0):
+    return b''.join(cell(date, category) + totals(date, category) for date in dates)
+
+
+def late_day():
+    """One meter; date 0 is the first of a chain of copies, and its day comes again, late."""
+    category, types = (1, 1, 1, 1, 1, 1, 0, 1), (1, 1, 1, 2, 1, 1, 1, 1)
+    upward = open_store([category], types) + register(FIRST)
+    upward += receive(FIRST, 0, whole_day(500))
+    upward += b''.join(map(run, range(8))) + look((0, 2, 3, 7))
+    # The late day: copies stand until date 0 is run again, then all of them follow.
+    upward += receive(FIRST, 0, whole_day(2500)) + look((7,)) + run(0) + look((0, 2, 3, 7)) + run(0)
+    # A day in the middle cuts the chain; another late day then moves only what is before it.
+    upward += receive(FIRST, 4, whole_day(800)) + run(4) + look((2, 4, 7))
+    upward += receive(FIRST, 0, whole_day(1000)) + run(0) + look((2, 4, 7))
+    # The day in the middle is withdrawn, by a set of estimates: the chain closes again.
+    upward += receive(FIRST, 4, whole_day(800, quality=8)) + run(4) + look((4, 7))
+    # The other way round: copies first find nothing, and the first date is run last.
+    downward = open_store([category], types, meters=1) + register(FIRST)
+    downward += b''.join(map(run, range(7, 0, -1))) + look((7,))
+    downward += receive(FIRST, 0, whole_day(500)) + run(0) + look((1, 3, 7))
+    return upward + downward
+
+
+def refusals():
+    """Each number that the program can give, then a ninth 12."""
+    good, kept = (1, 1, 1, 1, 1, 1, 0, 1), (2, 0, 0, 1, 1, 0, 0, 1)
+    before = register(FIRST) + receive(FIRST, 0, []) + run(0) + totals(0) + cell(0)
+    openings = (open_store([good], [1], duration=20) + open_store([good, good], [1])
+                + open_store([good], [1, 17]) + open_store([good], [1], meters=5)
+                + open_store([good, kept], [1, 2, 1, 2]))
+    registrations = (register(FIRST, date=4) + register(FIRST + 1) + register(FIRST, status=4)
+                     + register(FIRST, date=3, minute=1) + register(FIRST, category=2)
+                     + register(FIRST) + register(SECOND, status=2) + register(THIRD, status=3)
+                     + register(FOURTH, date=1, minute=600, limit=5) + register(FIFTH)
+                     + register(FIRST))
+    days = (receive(FIRST, 4, []) + receive(FIRST + 1, 0, []) + receive(FIFTH, 0, [])
+            + receive(FOURTH, 1, []) + receive(FIRST, 0, [], sender=8)
+            + receive(FIRST, 0, [], quantity=2) + receive(FIRST, 0, [], duration=15)
+            + receive(FIRST, 0, [(30, 1, 5), (60, 15, 5)]) + receive(FIRST, 0, [(0, 1, 5)])
+            + receive(FIRST, 0, [(30, 1, 5), (60, 1, 5), (30, 8, 5)])
+            + receive(SECOND, 0, [(30, 10, 0)]) + receive(THIRD, 0, [(30, 1, 0)])
+            + receive(FIRST, 0, [(30, 10, 1)]) + receive(FOURTH, 2, [(30, 1, 5), (60, 1, 6)])
+            + receive(FIRST, 1, [(30, 1, LIMIT)]) + register(FIRST, date=1))
+    reads = (run(4) + run(1) + totals(4) + totals(1, 2) + totals(0) + totals(1) + cell(4)
+             + cell(1, period=0) + cell(1, period=49) + cell(0) + cell(1))
+    return before + openings + registrations + days + reads + bytes((0x12, 1)) * 9
+
+
+def wide():
+    """A meter's ninth registration, families over regions, and a full year of copies."""
+    region = lambda group, least: (1, group, 1, 1, 1, 2, 0, least)
+    advanced = (2, 0, 0, 1, 1, 0, 0, 1)
+    hands = open_store([region(group, 3) for group in (1, 2, 14)] + [advanced], [1] * 12,
+                       duration=15, meters=8)
+    hands += b''.join(register(FIRST, date=date, category=date % 4) for date in range(9))
+    meters = (SECOND, THIRD, FOURTH, FIFTH)
+    hands += b''.join(register(mpan, category=number) for number, mpan in enumerate(meters))
+    for number, mpan in enumerate((FIRST, *meters)):
+        hands += receive(mpan, 8, whole_day(100 + 10 * number ** 2, duration=15), duration=15)
+    hands += b''.join(map(run, (9, 8, 11))) + b''.join(look((8, 9, 11), c) for c in range(4))
+    year = open_store([region(1, 1)], [1] * 370, meters=1) + register(FIRST)
+    year += receive(FIRST, 0, [(30, 1, 1000), (1440, 2, 777)])
+    year += b''.join(map(run, range(370))) + look((0, 6, 7, 363, 364, 365, 369))
+    year += receive(FIRST, 0, [(30, 1, 1001), (1440, 2, 777)]) + run(0) + look((364, 369))
+    year += receive(FIRST, 200, [(60, 1, 5)]) + run(200) + look((199, 200, 369)) + run(369)
+    return hands + year
+
+
+PROGRAMS = {'shaper': (INPUT, 'small'), 'shaper_late_day': (late_day(), 'small'),
+            'shaper_refusals': (refusals(), 'small'), 'shaper_wide': (wide(), 'wide')}
+
+
+def main():
+    if len(sys.argv) != 2:
+        sys.exit(__doc__)
+    for name, (stream, profile) in PROGRAMS.items():
+        folder = pathlib.Path(sys.argv[1]) / name
+        folder.mkdir(parents=True, exist_ok=True)
+        (folder / 'stdin').write_bytes(stream)
+        (folder / 'stdout').write_text(answer(stream, PROFILES[profile]))
+
+
+if __name__ == '__main__':
+    main()
