@@ -1,7 +1,7 @@
 -- Laws of texts: one appended behind another, the digits of a number, and what they read back as.
 use Prim.Native.Nat.{ℕ, zero, suc, _+_, _-_, _*_, _/_, _%_, _^_, _≤_, _<_}
-use mathlib.Core.Path.{_≡_, refl, sym, ap, _∙_}
-use mathlib.Core.Bool.{Bool, true, false, cond}
+use mathlib.Core.Path.{_≡_, refl, _∙_}
+use mathlib.Core.Bool.{cond}
 use mathlib.Core.List.{List, [], _∷_, _++_, append-assoc}
 use native.Mathlib.Omega.{arith}
 use native.Mathlib.Numerals.{add-one}
@@ -9,13 +9,10 @@ use native.Mathlib.Nat.{pow-suc, pow-le-pow-right, div-lt-iff-lt-mul, le-div-iff
 use lib.ListN.{length, take, drop, set, length-append}
 use lib.Seq.{take-length, take-at, drop-at, take-suc-set, length-take-le, append-snoc}
 use lib.Dec.{ltb, leb, eqb}
-use borrow.Author.Tests.{lt-ltb, le-ltb, ne-eqb, ltb-true, ltb-false, leb-true, leb-false}
+use borrow.Author.Tests.{lt-ltb, le-ltb, ne-eqb, leb-true, leb-false}
+use Rattle.metering.specs.Laws.{by-cases}
 use Rattle.io.specs.Digits.{digits, Fewest}
-use Rattle.answers.specs.Text.{Appended, decimalIn, decimalText, thousandths, energyText, numberWord, energyWord, readFrom, readBack}
-
-pub by-cases : {P : Type 0} (b : Bool) → (b ≡ true → P) → (b ≡ false → P) → P
-by-cases true t f = t refl
-by-cases false t f = f refl
+use Rattle.answers.specs.Text.{Appended, decimalIn, decimalText, energyText, numberWord, readFrom, readBack}
 
 -- ---- appending
 
@@ -117,11 +114,7 @@ read-decimal (suc most) n h =
     let high : n / 10 < 10 ^ most = div-lt-iff-lt-mul {k = 10} {x = n} {y = 10 ^ most} (omega arith) .1 (rw (pow-suc 10 most) at h) in
     simp (f, read-append, read-decimal most (n / 10) high, read-digit, read-none) (omega arith))
 
--- a number reads back as itself, and an energy as its Wh
-pub number-reads-back : (n : ℕ) → n < 18446744073709551616 → readBack (decimalText n) ≡ n
-unfolding readBack decimalText
-number-reads-back n h = read-decimal 20 n (omega arith)
-
+-- an energy reads back as its Wh
 pub energy-reads-back : (n : ℕ) → n < 18446744073709551616 → readBack (energyText n) ≡ n
 unfolding readBack energyText decimalText
 energy-reads-back n h =

@@ -9,7 +9,6 @@ use commands::operands::opening_at;
 use commands::operands::reception_at;
 use commands::operands::registration_at;
 use commands::operands::two;
-use registry::opening;
 use registry::reception;
 use registry::registration;
 ghost use mathlib.Core.Path.{_≡_};

@@ -14,7 +14,7 @@ use Rattle.metering.specs.Range.{between}
 use Rattle.ledger.specs.Method.{Picture}
 use Rattle.ledger.specs.Checks.{RegistrationCall, ReceptionCall, Verdict, verdict, registrationCheck, receptionCheck, runCheck, readCheck, totalsInRange, cellInRange}
 use Rattle.ledger.specs.Sizes.{settingsLength, metersLength, readingsLength, cellsLength}
-use Rattle.ledger.specs.Ledger.{Opening, categories, dates, periods, Meter, Ledger, start, Call, register, receive, run, readTotals, readCell, Answer, accepted, moved, totalsAre, cellIs, answer, left, Lengths, settingsShort, metersShort, cellsShort, anyShort, ledgerRegistrationCheck, afterRegistration, ledgerReceptionCheck, afterReception, cellAt, isRun, ledgerRunCheck, afterRun, movedBetween, at, ledgerTotalsCheck, ledgerCellCheck, totalsAt, ledgerAnswer, ledgerAfter}
+use Rattle.ledger.specs.Ledger.{Opening, categories, dates, periods, Meter, Ledger, start, Call, register, receive, run, readTotals, readCell, Answer, moved, totalsAre, cellIs, answer, left, Lengths, settingsShort, metersShort, cellsShort, anyShort, ledgerRegistrationCheck, afterRegistration, ledgerReceptionCheck, afterReception, cellAt, isRun, ledgerRunCheck, afterRun, movedBetween, ledgerTotalsCheck, ledgerCellCheck, totalsAt, ledgerAnswer, ledgerAfter}
 use Rattle.ledger.specs.Store.{rowOf, datesOf, categoriesOf, periodsOf, isRunAt}
 use Rattle.ledger.specs.Calls.{metersUnready, runUnready, cellsUnready, OpeningCall, openingVerdict, openedMeters, openedReadings, openedCells, registrationVerdict, registeredMeters, receptionVerdict, receivedReadings, rowAt, runVerdict, ranFrom, totalsVerdict, totalsFor, cellVerdict, cellFor}
 use Rattle.ledger.specs.Engine.{Parts, callAnswer, metersAfter, readingsAfter, cellsAfter, Item, cut, partsAfter, answersFrom, storeAnswers, cutLengths, ledgerAnswers, Every, lengthsOf, openedParts, opening, AreBytes, BodyOfBytes, BodiesOfBytes, Agreement}

@@ -1,6 +1,6 @@
 -- Demand 2 and the consequences of agreement.
 use Prim.Native.Nat.{ℕ, zero, suc, _+_, _/_, _%_, _≤_, _<_}
-use mathlib.Core.Path.{_≡_, refl, ap, fun-ext}
+use mathlib.Core.Path.{_≡_, refl, sym, ap, fun-ext}
 use mathlib.Core.Logic.{_≢_, _⊎_, inl, inr, ⊎-elim}
 use mathlib.Core.Bool.{Bool, true, false, not, _&&_, cond, true≢false}
 use mathlib.Core.List.{List}
@@ -15,11 +15,12 @@ use Rattle.metering.specs.Range.{between}
 use Rattle.metering.specs.Calendar.{durationKnown, periodEnding}
 use Rattle.metering.specs.Laws.{between-true, duration-pos, periodsPerDay-times, periodEnding-at, periodEnding-is, periodEnding-le}
 use Rattle.ledger.specs.Method.{Category, Picture, freshIn, Fresh, absent, own, pooled, Cell, Flag, A, D, E, N, blank, carried, cellFrom, Day, notRun, ran, pass, latest, cellOf, cellOn}
-use Rattle.ledger.specs.Checks.{Registration, ReceptionCall, Verdict, verdict, firstFailed, anyBelow, endMinute, quality, wattHoursAt, recordNumber, bodyCheck, inForceCheck, receptionCheck, runCheck, readCheck, totalsInRange, cellInRange}
-use Rattle.ledger.specs.Ledger.{Opening, categories, dates, periods, category, dayType, Ledger, run, Answer, refused, accepted, moved, totalsAre, cellIs, answer, Lengths, metersShort, cellsShort, anyShort, meterWith, currentOf, at, cellBy, cellAt, dayOf, isPicture, isRun, ledgerReceptionCheck, ledgerRunCheck, ledgerTotalsCheck, ledgerCellCheck, pictureOf, afterRun, movedBetween, totalsAt, ledgerAnswer}
+use Rattle.ledger.specs.Checks.{Registration, ReceptionCall, verdict, firstFailed, anyBelow, endMinute, quality, wattHoursAt, recordNumber, bodyCheck, inForceCheck, receptionCheck, runCheck, readCheck, totalsInRange, cellInRange}
+use Rattle.ledger.specs.Ledger.{Opening, categories, dates, periods, category, dayType, Ledger, Answer, refused, moved, totalsAre, cellIs, answer, Lengths, metersShort, cellsShort, anyShort, meterWith, currentOf, at, cellBy, cellAt, dayOf, isPicture, isRun, ledgerReceptionCheck, ledgerRunCheck, ledgerTotalsCheck, ledgerCellCheck, pictureOf, afterRun, movedBetween, totalsAt, ledgerAnswer}
 use Rattle.ledger.specs.Demands.{GoodRecord, MayReceive, ReceptionExact, RunIsMethod, NeverNotRun, SecondRunMovesNothing, SamePicturesSameCells, CopiesHaveOrigins}
 use Rattle.ledger.proofs.Lists.{by-cases, below-suc, sumBelow-none}
 use Rattle.ledger.proofs.Entries.{moved-same}
+use Rattle.ledger.proofs.Verdicts.{accepted-none}
 use Rattle.ledger.proofs.Choices.{passed, passed-verdict, not-false}
 use Rattle.ledger.proofs.Receive.{first-passed}
 
@@ -267,13 +268,6 @@ module _ (o : Opening) (r : Registration) (body : List ℕ) (k : ℕ) (known : d
           (λ q. let b = between-true 10 13 (quality body k) .0 q in rw (q, eq-eqb (wattHoursAt body k) 0 (g .zero-energy (b .0) (b .1))))
           (λ q. rw q)
 
-accepted-number : (v : Verdict) → answer v accepted ≡ accepted → v .number ≡ 0
-unfolding answer
-accepted-number v e =
-    by-cases (eqb (v .number) 0)
-    (λ q. eqb-true (v .number) 0 q)
-    (λ q. let z : refused (v .number) (v .place) ≡ accepted = rw q at e in absurd (let y : _≡_ {A = ℕ} 0 1 = cc in omega arith))
-
 module _ (l : Ledger) (n : Lengths) (a : ReceptionCall) (known : durationKnown (l .opening .duration) ≡ true) where
   -- what the checks under a registration say
   may-receive : metersShort (l .opening) n ≡ false → a .date < dates (l .opening) → mpanValid (a .mpan) ≡ true → (x : Option Registration) →
@@ -331,4 +325,4 @@ module _ (l : Ledger) (n : Lengths) (a : ReceptionCall) (known : durationKnown (
 
 pub reception-exact : ReceptionExact
 unfolding ledgerAnswer answer
-reception-exact l n a known = (λ e. accepted-means l n a known (accepted-number (ledgerReceptionCheck l n a) e), λ m. rw (accepts l n a known m))
+reception-exact l n a known = (λ e. accepted-means l n a known (accepted-none (ledgerReceptionCheck l n a) (sym e)), λ m. rw (accepts l n a known m))

@@ -9,7 +9,7 @@ use borrow.Author.Tests.{eq-eqb, eqb-true, eqb-false}
 use Rattle.ledger.specs.Method.{Flag, A, D, E, N, flagNumber, Cell, blank, carried, sameCell, movedCell, Fresh, absent, own, pooled, cellFrom}
 use Rattle.ledger.specs.Store.{entryOf, flagOf, flagNumberOf, cellOfEntry}
 use Rattle.ledger.specs.Calls.{carriedEntry, isOwn, rowEntry}
-use Rattle.ledger.proofs.Choices.{both}
+use Rattle.ledger.specs.Ready.{both}
 use Rattle.ledger.proofs.Lists.{by-cases}
 
 -- what an entry has room for

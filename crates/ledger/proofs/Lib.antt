@@ -1,5 +1,6 @@
 -- The proof of agreement, and laws for the code above.
 pub mod Choices
+pub mod Verdicts
 pub mod Lists
 pub mod Entries
 pub mod Columns

@@ -8,7 +8,7 @@ use native.Mathlib.Omega.{arith}
 use native.Mathlib.Numerals.{add-one}
 use native.Mathlib.Nat.{zero-add, add-zero, add-suc, suc-add, suc-mul, zero-mul, eq-or-lt-of-le, le-of-suc-le-suc, not-suc-le-zero, mul-le-mul-right}
 use lib.ListN.{length, getD, take, drop, set, length-append, List·getD-append, length-set}
-use lib.Seq.{sets, getD-set-same, getD-set-other, getD-append-add, getD-take}
+use lib.Seq.{sets, getD-set-same, getD-set-other, getD-append-add, getD-take, take-suc, length-take-le}
 use lib.Arith.{digits-div}
 use lib.Dec.{eqb}
 use borrow.Author.Tests.{eq-eqb, ne-eqb}
@@ -21,6 +21,16 @@ pub below-suc : (P : ℕ → Type 0) (n : ℕ) → ((k : ℕ) → k < n → P k)
 below-suc P n all here k h = ⊎-elim (λ e. rw e here) (λ l. all k l) (eq-or-lt-of-le (le-of-suc-le-suc h))
 
 -- ---- a run of stores
+
+pub sets-append : (l xs ys : List ℕ) (i : ℕ) → sets (sets l i xs) (i + length xs) ys ≡ sets l i (xs ++ ys)
+sets-append l [] ys i = rw add-zero
+sets-append l (x ∷ xs) ys i = let e : i + suc (length xs) ≡ suc i + length xs = omega arith in rw e (sets-append (set l i x) xs ys (suc i))
+
+pub sets-more : (l s : List ℕ) (i j : ℕ) → j < length s → set (sets l i (take j s)) (i + j) (getD s j 0) ≡ sets l i (take (j + 1) s)
+sets-more l s i j h =
+    let e = sets-append l (take j s) (getD s j 0 ∷ []) i in
+    let n : length (take j s) ≡ j = length-take-le j s (omega arith) in
+    rw (add-one, take-suc s j 0) (rw n at e)
 
 pub getD-sets-below : (vs l : List ℕ) (at j : ℕ) → j < at → getD (sets l at vs) j 0 ≡ getD l j 0
 getD-sets-below [] l at j h = refl

@@ -14,7 +14,7 @@ use borrow.Author.Tests.{eq-eqb, ne-eqb, leb-true}
 use Rattle.metering.specs.Average.{average}
 use Rattle.metering.specs.Laws.{average-le}
 use Rattle.metering.specs.Calendar.{periodsPerDay}
-use Rattle.ledger.specs.Method.{Category, isSmart, sameFamily, ReadingSet, Picture, wattHours, present, total, own, freshOf, freshIn, cellOn}
+use Rattle.ledger.specs.Method.{Category, isSmart, sameFamily, ReadingSet, Picture, wattHours, present, total, freshOf, freshIn, cellOn}
 use Rattle.ledger.specs.Checks.{Registration, later, inForceAfter, inForce}
 use Rattle.ledger.specs.Sizes.{cellsLength}
 use Rattle.ledger.specs.Ledger.{Opening, categories, dates, periods, category, dayType, Meter, Ledger, at, dayOf, cellBy, isPicture, entriesOf, pictureOf, movedBetween}

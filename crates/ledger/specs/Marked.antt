@@ -10,7 +10,7 @@ use Rattle.metering.specs.Mpan.{mpanValid, checkDigit, weightedSum, product, di
 use Rattle.metering.specs.Average.{average, annual}
 use Rattle.metering.specs.Range.{between}
 use Rattle.metering.specs.Calendar.{periodsPerDay, periodEnding, liesWithin, windowStart, windowEnd}
-use Rattle.ledger.specs.Method.{Category, categoryAt, isSmart, sameFamily, Entry, Picture, total, freshOf, freshIn, Cell, A, D, blank, carried, cellFrom, ran, pass, latest, cellOf, cellOn, sameCell, movedCell, overRunDates, totOn, offOn, peakOn, totalsOn}
+use Rattle.ledger.specs.Method.{Category, categoryAt, isSmart, sameFamily, Entry, Picture, total, freshOf, freshIn, Cell, D, blank, carried, cellFrom, ran, pass, latest, cellOf, cellOn, sameCell, movedCell, overRunDates, totOn, offOn, peakOn, totalsOn}
 use Rattle.ledger.specs.Checks.{firstFailed, anyBelow, recordNumber, endMinute, quality, wattHoursAt, startOf, later, inForceAfter, inForce, notAfterLast, registrationInRange, meterNumber, registrationCheck, bodyCheck, inForceCheck, receptionCheck, isReading, readingIn, runCheck, readCheck, totalsInRange, cellInRange}
 use Rattle.ledger.specs.Sizes.{settingsLength, metersLength, readingsLength, cellsLength}
 use Rattle.ledger.specs.Ledger.{Opening, Ledger, start, Call, register, receive, run, readTotals, readCell, Answer, refused, accepted, moved, totalsAre, answer, left, Lengths, settingsShort, metersShort, cellsShort, anyShort, meterWith, changed, heldFrom, ledgerRegistrationCheck, registerIn, afterRegistration, ledgerReceptionCheck, setOf, at, afterReception, cellBy, cellAt, isRun, ledgerRunCheck, pictureOf, afterRun, movedBetween, ledgerTotalsCheck, ledgerCellCheck, totalsAt, ledgerAnswer, ledgerAfter}

@@ -2,7 +2,7 @@
 -- that document; "house" marks a rule that the paper adds or puts in place of METH005's.
 -- Dates count from 0, categories from 0, periods from 1.
 use Prim.Native.Nat.{ℕ, zero, suc, _+_, _-_, _*_}
-use mathlib.Core.Bool.{Bool, not, _&&_, cond}
+use mathlib.Core.Bool.{Bool, _&&_, cond}
 use mathlib.Core.List.{List, [], _∷_}
 use mathlib.Core.Option.{Option, none, some}
 use lib.Dec.{leb, eqb}

@@ -1,19 +1,20 @@
 -- What is known of settings that pass the first check.
 use Prim.Native.Nat.{ℕ, _+_, _*_, _≤_}
-use mathlib.Core.Path.{_≡_, refl}
-use mathlib.Core.Bool.{Bool, true, false, _&&_, and-eq-true-iff}
+use mathlib.Core.Path.{_≡_}
+use mathlib.Core.Bool.{Bool, true, _&&_, and-eq-true-iff}
 use mathlib.Core.List.{List}
 use mathlib.Core.Logic.{_⊎_, inl, inr, ⊎-elim}
 use native.Mathlib.Omega.{arith}
-use lib.Dec.{leb, eqb}
+use lib.Dec.{leb}
 use lib.ListN.{length}
-use borrow.Author.Tests.{leb-true, eqb-true}
+use borrow.Author.Tests.{leb-true}
 use Rattle.metering.specs.Range.{between, metersInRange, categoriesInRange, datesInRange}
-use Rattle.metering.specs.Calendar.{durationKnown, periodsPerDay}
+use Rattle.metering.specs.Calendar.{periodsPerDay}
+use Rattle.metering.specs.Laws.{duration-is}
 use Rattle.ledger.specs.Sizes.{settingsLength}
 use Rattle.ledger.specs.Store.{durationOf, metersOf, categoriesOf, datesOf, periodsOf, isOpened, settingsReady}
 
-both : (a b : Bool) → (a && b) ≡ true → (a ≡ true) × (b ≡ true)
+pub both : (a b : Bool) → (a && b) ≡ true → (a ≡ true) × (b ≡ true)
 both a b h = and-eq-true-iff a b .0 h
 
 pub record Ready (s : List ℕ) : Type 0 where
@@ -22,10 +23,6 @@ pub record Ready (s : List ℕ) : Type 0 where
   pub categories : (1 ≤ categoriesOf s) × (categoriesOf s ≤ 64)
   pub dates : (1 ≤ datesOf s) × (datesOf s ≤ 800)
   pub long : 8 + 8 * categoriesOf s + datesOf s ≤ length s
-
-known : (d : ℕ) → durationKnown d ≡ true → (d ≡ 15) ⊎ (d ≡ 30)
-unfolding durationKnown
-known d h = (elim (eqb d 15) as (λ b. eqb d 15 ≡ b → (d ≡ 15) ⊎ (d ≡ 30)) [ true ↦ λ e. inl (eqb-true d 15 e) | false ↦ λ e. inr (eqb-true d 30 (rw e at h)) ]) refl
 
 in-range : (low high x : ℕ) → between low high x ≡ true → (low ≤ x) × (x ≤ high)
 unfolding between
@@ -39,7 +36,7 @@ ready s h =
     let r = both _ _ (q .0) in
     let t = both _ _ (r .0) in
     record {
-      duration = known (durationOf s) (t .0);
+      duration = duration-is (durationOf s) (t .0);
       meters = in-range 1 1024 (metersOf s) (t .1);
       categories = in-range 1 64 (categoriesOf s) (r .1);
       dates = in-range 1 800 (datesOf s) (q .1);

@@ -2,12 +2,12 @@
 use Prim.Native.Nat.{ℕ, _+_, _*_, _%_, _-_, _≤_, _<_}
 use mathlib.Core.Path.{_≡_, refl, sym, _∙_}
 use mathlib.Core.Logic.{_↔_, _≢_, _⊎_, inl, inr, ⊎-elim}
-use mathlib.Core.Bool.{Bool, true, false, _&&_, and-eq-true-iff}
+use mathlib.Core.Bool.{Bool, true, false, not, _&&_, and-eq-true-iff}
 use native.Mathlib.Nat.{mul-div-le, lt-mul-div-succ, div-eq-of-lt-le, div-lt-iff-lt-mul, div-one, div-add-mod', div-mul-le-self, le-div-iff-mul-le, le-trans, add-zero, mul-pos, mul-mod-left, mul-div-cancel, le-of-mul-le-mul-right, mul-le-mul-left, mul-le-mul-right}
 use native.Mathlib.Omega.{arith}
 use lib.ListN.{getD}
 use lib.Dec.{eqb, leb, leb·zero}
-use borrow.Author.Tests.{leb-true, le-leb, lt-leb, eqb-true}
+use borrow.Author.Tests.{leb-true, le-leb, lt-leb, eqb-true, not-true, not-false}
 use Rattle.metering.specs.Average.{average, annual}
 use Rattle.metering.specs.Calendar.{durationKnown, periodsPerDay, periodEnding, liesWithin, windowStart, windowEnd}
 use Rattle.metering.specs.Sum.{sumBelow, sumBelow-le}
@@ -17,6 +17,14 @@ use Rattle.metering.specs.Range.{between}
 pub by-cases : {P : Type 0} (b : Bool) → (b ≡ true → P) → (b ≡ false → P) → P
 by-cases true t f = t refl
 by-cases false t f = f refl
+
+-- what a call answered, and the negated test on it
+
+pub failed : {r x : Bool} → r ≡ x → not r ≡ true → x ≡ false
+failed e t = sym e ∙ not-true _ t
+
+pub passed : {r x : Bool} → r ≡ x → not r ≡ false → x ≡ true
+passed e t = sym e ∙ not-false _ t
 
 pub both-leb : (a b c d : ℕ) → (leb a b && leb c d ≡ true) ↔ ((a ≤ b) × (c ≤ d))
 both-leb a b c d = (

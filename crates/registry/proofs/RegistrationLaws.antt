@@ -1,40 +1,22 @@
 -- Laws of the registration's checks: what each group that passed or failed says of the whole, and what is left then.
 use Prim.Native.Nat.{ℕ, _≤_, _<_}
-use mathlib.Core.Path.{_≡_, refl, sym, _∙_}
+use mathlib.Core.Path.{_≡_, refl, sym, ap, _∙_}
 use mathlib.Core.Bool.{Bool, true, false, not, _&&_, cond, and-eq-true-iff}
 use mathlib.Core.List.{List}
 use mathlib.Core.Option.{none, some}
 use native.Mathlib.Omega.{arith}
 use lib.Dec.{leb, ltb, eqb}
 use lib.ListN.{length}
-use borrow.Author.Tests.{lt-ltb, le-ltb, ltb-true, le-leb, lt-leb, leb-false, ne-eqb}
+use borrow.Author.Tests.{lt-ltb, le-ltb, ltb-true, le-leb, lt-leb, leb-false}
 use Rattle.metering.specs.Mpan.{mpanValid}
 use Rattle.metering.specs.Laws.{by-cases}
 use Rattle.ledger.specs.Checks.{RegistrationCall, Verdict, verdict, startOf, registrationInRange, notAfterLast, anyBelow, meterNumber, registrationCheck}
 use Rattle.ledger.specs.Store.{metersOf, datesOf, categoriesOf, periodsOf, mpanAt, slotOf, knownAt, registrationsAt, isHeldAt, putRegistration}
 use Rattle.ledger.specs.Ledger.{accepted, refused, answer, left}
 use Rattle.ledger.specs.Calls.{metersUnready, slotFor, registrationsFor, heldFromAt, usedOf, registrationVerdict, registeredMeters}
+use Rattle.ledger.proofs.Verdicts.{refused-is, kept-is, given-is, after-is}
 use Rattle.store.specs.Meters.{registrationOf}
 use Rattle.registry.specs.Registration.{registrationCall, callNumber}
-
--- ---- a refusal, and an acceptance
-
-module _ (v : Verdict) (n : ℕ) (e : v ≡ verdict n) where
-  pub answer-refused : (n ≡ 0 → ⊥) → answer v accepted ≡ refused n 0
-  unfolding answer
-  answer-refused h = rw (e, ne-eqb n 0 h)
-
-  pub left-refused : (n ≡ 0 → ⊥) → (before after : List ℕ) → left v before after ≡ before
-  unfolding left
-  left-refused h before after = rw (e, ne-eqb n 0 h)
-
-  pub answer-accepted : n ≡ 0 → answer v accepted ≡ accepted
-  unfolding answer
-  answer-accepted h = rw (e, h)
-
-  pub left-accepted : n ≡ 0 → (before after : List ℕ) → left v before after ≡ after
-  unfolding left
-  left-accepted h before after = rw (e, h)
 
 -- ---- the checks that look at no meter
 
@@ -195,22 +177,25 @@ module _ (s m r : List ℕ) (mpan date minute category sender status limit n : �
   pub refused-by-call : (n ≡ 0 → ⊥) → (refused n 0 ≡ answer v accepted) × (m ≡ left v m (registeredMeters s m r a))
   refused-by-call h =
       let p = verdict-call s m r a n whole h in
-      (sym (answer-refused v n p h), sym (left-refused v n p h m (registeredMeters s m r a)))
+      (refused-is v n (sym (ap (λ (w : Verdict). w .number) p)) accepted (ap (λ (w : Verdict). w .place) p) h, kept-is v n (sym (ap (λ (w : Verdict). w .number) p)) m (registeredMeters s m r a) h)
 
   module _ (z : n ≡ 0) (slot start k : ℕ) (e1 : slot ≡ slotFor s m r mpan) (e2 : start ≡ startOf date minute)
       (e3 : k ≡ meterNumber (leb (metersOf s) slot) start (heldFromAt s m r start slot) (registrationsFor s m r mpan)) where
     verdict-is : v ≡ verdict k
     verdict-is = verdict-meter s m r a (sym whole ∙ z) k (e3 ∙ rw (e1, e2))
 
+    number-is : k ≡ v .number
+    number-is = sym (ap (λ (w : Verdict). w .number) verdict-is)
+
     pub refused-by-meter : (k ≡ 0 → ⊥) → (refused k 0 ≡ answer v accepted) × (m ≡ left v m (registeredMeters s m r a))
-    refused-by-meter h = (sym (answer-refused v k verdict-is h), sym (left-refused v k verdict-is h m (registeredMeters s m r a)))
+    refused-by-meter h = (refused-is v k number-is accepted (ap (λ (w : Verdict). w .place) verdict-is) h, kept-is v k number-is m (registeredMeters s m r a) h)
 
     pub accepted-with : k ≡ 0 → (slots used : ℕ) {after : List ℕ} → slots ≡ metersOf s →
         used ≡ cond (knownAt slots mpan m) (length (registrationsAt slots m slot)) 0 →
         after ≡ putRegistration slots mpan slot used (registrationOf start category sender status limit) m →
         (accepted ≡ answer v accepted) × (after ≡ left v m (registeredMeters s m r a))
     accepted-with h slots used e4 e5 p = (
-      sym (answer-accepted v k verdict-is h),
+      given-is v k number-is accepted h,
       p ∙ put-is s m r mpan slots slot used e4 e1 e5 start date minute category sender status limit e2
-          ∙ sym (left-accepted v k verdict-is h m (registeredMeters s m r a)),
+          ∙ after-is v k number-is m (registeredMeters s m r a) h,
     )

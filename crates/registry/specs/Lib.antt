@@ -1,5 +1,3 @@
--- What the contracts of opening, registration and reception cite beyond the ledger's definitions.
-pub mod Outcome
-pub mod Opening
+-- What the contracts of registration and reception cite beyond the ledger's definitions.
 pub mod Registration
 pub mod Reception

@@ -1,9 +1,6 @@
-// Opening, registration and reception: the calls that write settings, meters and readings.
+// Registration and reception: the calls that write meters and readings.
 mod lent;
-pub mod opening;
-pub mod outcome;
 pub mod reception;
 mod record;
 pub mod registration;
-mod sizes;
-mod writing;
+mod set;

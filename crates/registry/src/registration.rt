@@ -1,6 +1,5 @@
 // Registration: the checks in the table's order, each group a number, then one more registration in the meter's slot.
 use crate::lent::meters_unready;
-use crate::outcome::Outcome;
 use metering::mpan::mpan_valid;
 use metering::range::between;
 use store::meters::has_mpan;
@@ -8,6 +7,7 @@ use store::meters::put_registration;
 use store::meters::slot_of;
 use store::meters::start_not_after_last;
 use store::meters::used_count;
+use store::outcome::Outcome;
 use store::readings::held_from;
 use store::settings::category_count;
 use store::settings::date_count;
@@ -19,7 +19,7 @@ ghost use mathlib.Core.Option.{some};
 ghost use Prim.Native.Nat.{_<_, _≤_};
 ghost use lib.Dec.{leb};
 ghost use lib.ListN.{length};
-ghost use Rattle.registry.specs.Outcome.{answerOf};
+ghost use Rattle.store.specs.Outcome.{answerOf};
 ghost use Rattle.registry.specs.Registration.{registrationCall, callNumber};
 ghost use Rattle.ledger.specs.Sizes.{metersLength, readingsLength};
 ghost use Rattle.ledger.specs.Checks.{startOf, registrationInRange, meterNumber, anyBelow};

@@ -1,20 +1,19 @@
 -- The checks of a read: what holds where they pass, and which number they give.
 use Prim.Native.Nat.{ℕ, _+_, _*_, _≤_, _<_}
-use mathlib.Core.Path.{_≡_, refl, sym, _∙_}
+use mathlib.Core.Path.{_≡_, refl, _∙_}
 use mathlib.Core.Bool.{Bool, true, false, not, _&&_, cond, and-eq-true-iff}
 use mathlib.Core.List.{List}
 use native.Mathlib.Omega.{arith}
 use native.Mathlib.Nat.{mul-le-mul-right, suc-mul, div-mul-le-self}
-use borrow.Author.Tests.{leb-true, leb-false, ltb-true, eqb-false, eq-eqb, ne-eqb, not-true, not-false}
+use borrow.Author.Tests.{leb-true, leb-false, ltb-true, eqb-false, not-false}
 use lib.Dec.{leb, eqb}
 use lib.ListN.{length}
 use Rattle.metering.specs.Calendar.{periodsPerDay}
 use Rattle.metering.specs.Range.{between}
-use Rattle.ledger.specs.Checks.{Verdict, runCheck, readCheck, totalsInRange, cellInRange}
+use Rattle.ledger.specs.Checks.{runCheck, readCheck, totalsInRange, cellInRange}
 use Rattle.ledger.specs.Sizes.{cellsLength}
 use Rattle.ledger.specs.Store.{durationOf, categoriesOf, datesOf, periodsOf, settingsReady, cellsReady}
 use Rattle.ledger.specs.Ready.{ready, periods-bound}
-use Rattle.ledger.specs.Ledger.{Answer, refused, answer}
 use Rattle.ledger.specs.Calls.{cellsUnready, totalsVerdict, cellVerdict}
 use Rattle.reports.specs.declared.column.Column.{Column}
 use Rattle.reports.specs.Column.{Within}
@@ -25,12 +24,6 @@ abbrev pub columnOf : List ℕ → ℕ → Column
 columnOf settings c = record { categories = categoriesOf settings; periods = periodsOf settings; category = c }
 
 -- ---- what a test says of what it tests
-
-pub failed : {r x : Bool} → r ≡ x → not r ≡ true → x ≡ false
-failed e t = sym e ∙ not-true _ t
-
-pub held : {r x : Bool} → r ≡ x → not r ≡ false → x ≡ true
-held e t = sym e ∙ not-false _ t
 
 -- ---- what holds where the checks pass
 
@@ -147,13 +140,3 @@ module _ (short : Bool) (dates date : ℕ) (inRange isRun : Bool) (n : ℕ) (e :
   rest-decides range run r z a b f =
       let g : r ≡ cond (not inRange) 15 (cond (not isRun) 14 0) = f ∙ rw (a, b) (range-before-run (not inRange) (not isRun)) in
       rw g (rest short (leb dates date) _ n e z)
-
--- ---- the answer
-
-pub is-refused : (v : Verdict) (given : Answer) (n : ℕ) → n ≡ v .number → v .place ≡ 0 → (n ≡ 0 → ⊥) → refused n 0 ≡ answer v given
-unfolding answer
-is-refused v given n e z h = rw (← e, z, ne-eqb n 0 h)
-
-pub is-given : (v : Verdict) (given : Answer) → v .number ≡ 0 → given ≡ answer v given
-unfolding answer
-is-given v given e = rw (eq-eqb (v .number) 0 e)

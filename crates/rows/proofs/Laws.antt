@@ -1,9 +1,9 @@
 -- Laws of lists made from a function, of sums and of counts of differences.
 use Prim.Native.Nat.{ℕ, zero, suc, _+_, _*_, _≤_, _<_, zero-le}
-use mathlib.Core.Path.{_≡_, refl, sym, ap, ap₂, _∙_}
+use mathlib.Core.Path.{_≡_, refl, sym, ap, _∙_}
 use mathlib.Core.Bool.{Bool, true, false, and-eq-true-iff}
 use mathlib.Core.List.{List, [], _∷_, _++_, append-assoc, append-nil}
-use native.Mathlib.Nat.{add-zero, add-suc, add-assoc, add-le-add, add-mul, suc-mul}
+use native.Mathlib.Nat.{add-zero, add-suc, add-le-add, add-mul, suc-mul}
 use native.Mathlib.Numerals.{add-one}
 use native.Mathlib.Omega.{arith}
 use lib.Dec.{eqb, leb}
@@ -13,6 +13,7 @@ use borrow.Author.Tests.{eqb-true, eqb-false, leb-true}
 use Rattle.metering.specs.Laws.{by-cases, average-le}
 use Rattle.metering.specs.Average.{average}
 use Rattle.metering.specs.Sum.{sumBelow, sumBelow-suc, sumBelow-zero}
+use Rattle.ledger.proofs.Lists.{length-tabulate, getD-tabulate, sumBelow-cong, sumBelow-more}
 use Rattle.ledger.specs.Method.{absent, own, pooled}
 use Rattle.ledger.specs.Table.{tabulate}
 use Rattle.ledger.specs.Calls.{differing}
@@ -23,20 +24,6 @@ use Rattle.rows.specs.Rows.{filling, differenceOf, isEnough, Averaged, f
 pub tabulate-suc : (n : ℕ) (f : ℕ → ℕ) → tabulate (suc n) f ≡ tabulate n f ++ (f n ∷ [])
 unfolding tabulate
 tabulate-suc n f = refl
-
-pub length-tabulate : (n : ℕ) (f : ℕ → ℕ) → length (tabulate n f) ≡ n
-unfolding tabulate
-length-tabulate zero f = refl
-length-tabulate (suc n) f = length-append (tabulate n f) (f n ∷ []) ∙ (rw (length-tabulate n f) (add-one n))
-
-pub getD-tabulate : (n : ℕ) (f : ℕ → ℕ) (k : ℕ) → k < n → getD (tabulate n f) k 0 ≡ f k
-unfolding tabulate
-getD-tabulate zero f k h = absurd (omega arith)
-getD-tabulate (suc n) f k h =
-    by-cases (eqb k n)
-    (λ e. let is = eqb-true k n e in rw is (getD-at (tabulate n f) (f n) [] 0 n (length-tabulate n f)))
-    (λ e. let no : k ≡ n → ⊥ = eqb-false k n e in let low : k < n = omega arith in
-    List·getD-append (tabulate n f) (f n ∷ []) 0 k (rw (length-tabulate n f) low) ∙ getD-tabulate n f k low)
 
 pub tabulate-ext : (n : ℕ) (f g : ℕ → ℕ) → ((k : ℕ) → k < n → f k ≡ g k) → tabulate n f ≡ tabulate n g
 unfolding tabulate
@@ -121,16 +108,6 @@ filled-whole f xs ys k n so is whole =
 
 -- ---- sums
 
-pub sumBelow-ext : (n : ℕ) (f g : ℕ → ℕ) → ((k : ℕ) → k < n → f k ≡ g k) → sumBelow n f ≡ sumBelow n g
-unfolding sumBelow
-sumBelow-ext zero f g h = refl
-sumBelow-ext (suc n) f g h = ap₂ _+_ (sumBelow-ext n f g (λ k l. h k (omega arith))) (h n (omega arith))
-
-pub sumBelow-add : (m n : ℕ) (f : ℕ → ℕ) → sumBelow (m + n) f ≡ sumBelow m f + sumBelow n (λ k. f (m + k))
-unfolding sumBelow
-sumBelow-add m zero f = rw (add-zero m) (sym (add-zero (sumBelow m f)))
-sumBelow-add m (suc n) f = rw (add-suc m n, sumBelow-add m n f) (add-assoc (sumBelow m f) (sumBelow n (λ k. f (m + k))) (f (m + n)))
-
 -- a sum of terms that are each at most w times another's
 pub sumBelow-times : (n w : ℕ) (f g : ℕ → ℕ) → ((k : ℕ) → k < n → f k ≤ g k * w) → sumBelow n f ≤ sumBelow n g * w
 unfolding sumBelow
@@ -170,11 +147,11 @@ counted f g k n moved so is = so ∙ ap (λ (m : ℕ). differing m f g) is
 
 pub differing-ext : (n : ℕ) (f f′ g g′ : ℕ → ℕ) → ((k : ℕ) → k < n → f k ≡ f′ k) → ((k : ℕ) → k < n → g k ≡ g′ k) → differing n f g ≡ differing n f′ g′
 unfolding differing
-differing-ext n f f′ g g′ p q = sumBelow-ext n _ _ (λ k l. rw (p k l, q k l))
+differing-ext n f f′ g g′ p q = sumBelow-cong n _ _ (λ k l. rw (p k l, q k l))
 
 pub differing-add : (m n : ℕ) (f g : ℕ → ℕ) → differing (m + n) f g ≡ differing m f g + differing n (λ k. f (m + k)) (λ k. g (m + k))
 unfolding differing
-differing-add m n f g = sumBelow-add m n _
+differing-add m n f g = sumBelow-more m n _
 
 differenceOf-zero : (a b : ℕ) → differenceOf a b ≡ 0 → a ≡ b
 unfolding differenceOf

@@ -14,8 +14,7 @@ use lib.Seq.{drop-drop, getD-append-add, length-take-le}
 use borrow.Author.Tests.{leb-true, leb-false, eqb-true, eqb-false, eq-eqb, ne-eqb}
 use Rattle.metering.specs.Laws.{by-cases}
 use Rattle.ledger.specs.Method.{Category, wattHours, present, isSmart, sameFamily, freshOf, blank}
-use Rattle.ledger.specs.Checks.{Verdict, runCheck}
-use Rattle.ledger.specs.Ledger.{Answer, refused, answer, left}
+use Rattle.ledger.specs.Checks.{runCheck}
 use Rattle.ledger.specs.Sizes.{cellsLength}
 use Rattle.ledger.specs.Ready.{Ready}
 use Rattle.ledger.specs.Store.{metersOf, categoriesOf, datesOf, periodsOf, rowOf, categoryOf, dayTypeOf, settingsReady, metersReady, readingsReady, cellsReady, isRunAt, readingAt, entryOf}
@@ -23,7 +22,8 @@ use Rattle.ledger.specs.Table.{tabulate}
 use Rattle.ledger.specs.Calls.{countsFor, tally, familyTally, freshAt, rowAt, putRow, lastRun, overFrom, seen, differing, carriedEntry, Ran, followRow, overAfter, movedInRow, carryOn, newRow, ranFrom, runUnready, runVerdict}
 use Rattle.store.specs.Entry.{reading-bound}
 use Rattle.rows.specs.Rows.{filling, isEnough, freshBy, followedEntry, overBeyond}
-use Rattle.rows.proofs.Laws.{length-tabulate, getD-tabulate, tabulate-ext, tabulate-getD, filling-below, sumBelow-ext, sumBelow-times, differing-le, differing-ext, differing-none}
+use Rattle.ledger.proofs.Lists.{length-tabulate, getD-tabulate, sumBelow-cong}
+use Rattle.rows.proofs.Laws.{tabulate-ext, tabulate-getD, filling-below, sumBelow-times, differing-le, differing-ext, differing-none}
 use Rattle.tally.specs.Sums.{spliced, tallyBelow, Tallied, Bounded, pooledBelow, entryFrom, rowFrom}
 use Rattle.tally.proofs.Laws.{place-below, part-at, part-length, category-below, period-below, place-is, tally-most}
 use Rattle.shapes.specs.Walk.{Stepped, settled}
@@ -304,7 +304,7 @@ module _ (s m r : List ℕ) (date : ℕ) (known : Ready s) where
       pooledBelow s xs c (categoriesOf s) p ≡ familyTally s m r date measure c (suc p)
   unfolding pooledBelow familyTally
   pooled-is measure xs so c p l =
-      sumBelow-ext (categoriesOf s) _ _
+      sumBelow-cong (categoriesOf s) _ _
       (λ b low. ap (λ (x : ℕ). cond (sameFamily (categoryOf s c) (categoryOf s b)) x 0) (tallied-at measure xs so b p low l))
 
   module _ (sums counts : List ℕ) (so-sums : Tallied s m r date wattHours (metersOf s) sums) (so-counts : Tallied s m r date present (metersOf s) counts) where
@@ -366,23 +366,6 @@ accepted-run s m r cells date h =
 pub run-place : (s m r cells : List ℕ) (date : ℕ) → runVerdict s m r cells date .place ≡ 0
 unfolding runVerdict
 run-place s m r cells date = refl
-
-module _ (v : Verdict) (n : ℕ) (is : n ≡ v .number) where
-  pub refused-is : (given : Answer) → v .place ≡ 0 → (n ≡ 0 → ⊥) → refused n 0 ≡ answer v given
-  unfolding answer
-  refused-is given place fails = rw (place, ← is, ne-eqb n 0 fails)
-
-  pub kept-is : (before after : List ℕ) → (n ≡ 0 → ⊥) → before ≡ left v before after
-  unfolding left
-  kept-is before after fails = rw (← is, ne-eqb n 0 fails)
-
-  pub given-is : (given : Answer) → n ≡ 0 → given ≡ answer v given
-  unfolding answer
-  given-is given passes = rw (← is, eq-eqb n 0 passes)
-
-  pub after-is : (before after : List ℕ) → n ≡ 0 → after ≡ left v before after
-  unfolding left
-  after-is before after passes = rw (← is, eq-eqb n 0 passes)
 
 -- ---- what a run leaves
 

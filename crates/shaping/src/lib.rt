@@ -1,6 +1,5 @@
 // The engine: all public calls in one place. None has a `requires`; each contract stands with its call.
-pub use registry::opening::open;
-pub use registry::outcome::Outcome;
+pub use opening::open;
 pub use registry::reception::receive;
 pub use registry::registration::register;
 pub use reports::CellOutcome;
@@ -12,3 +11,4 @@ pub use shapes::RunOutcome;
 pub use shapes::run;
 pub use store::cell::Cell;
 pub use store::cell::Flag;
+pub use store::outcome::Outcome;

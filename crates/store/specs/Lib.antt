@@ -4,3 +4,4 @@ pub mod Bounds
 pub mod Cell
 pub mod Entry
 pub mod Meters
+pub mod Outcome

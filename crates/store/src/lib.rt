@@ -4,6 +4,7 @@ pub mod category;
 pub mod cell;
 pub mod entry;
 pub mod meters;
+pub mod outcome;
 pub mod readings;
 pub mod run_mark;
 pub mod settings;

@@ -1,7 +1,7 @@
 // Whether a date is run, read off the flag of its first cell.
 use crate::access::entry_at;
 ghost use mathlib.Core.Path.{_≡_};
-ghost use Prim.Native.Nat.{_*_, _<_, _^_};
+ghost use Prim.Native.Nat.{_*_, _<_};
 ghost use lib.ListN.{length};
 ghost use Rattle.ledger.specs.Store.{flagNumberOf, isRunAt};
 

@@ -8,7 +8,7 @@ use store::settings::category_count;
 use store::settings::period_count;
 ghost use mathlib.Core.Path.{_≡_};
 ghost use mathlib.Core.Bool.{true};
-ghost use Prim.Native.Nat.{ℕ, _+_, _<_, _≤_};
+ghost use Prim.Native.Nat.{_+_, _<_, _≤_};
 ghost use lib.ListN.{length, getD};
 ghost use Rattle.ledger.specs.Store.{settingsReady, categoriesOf, periodsOf, rowOf};
 ghost use Rattle.ledger.specs.Table.{tabulate};

@@ -3,7 +3,8 @@ use mathlib.Core.Path.{_≡_, sym, ap, _∙_}
 use borrow.Author.Needs.{needs}
 use Rattle.ledger.specs.Ledger.{moved}
 use Rattle.ledger.specs.Calls.{runVerdict}
-use Rattle.shapes.proofs.Laws.{accepted-run, run-place, refused-is, kept-is, given-is, after-is}
+use Rattle.ledger.proofs.Verdicts.{refused-is, kept-is, given-is, after-is}
+use Rattle.shapes.proofs.Laws.{accepted-run, run-place}
 use borrow.Author.Needs.{needs}
 use Rattle.shapes.proofs.run.Statement.{statement}
 use Rattle.shapes.proofs.run.Tie as tie

@@ -3,7 +3,7 @@ use borrow.Author.Needs.{needs}
 use borrow.Author.Tests.{le-leb, lt-leb}
 use Rattle.ledger.specs.Checks.{runCheck}
 use Rattle.ledger.specs.Calls.{runUnready, runVerdict}
-use Rattle.store.proofs.Laws.{passed, failed}
+use Rattle.metering.specs.Laws.{passed, failed}
 use Rattle.tally.proofs.Laws.{eight}
 use borrow.Author.Needs.{needs}
 use Rattle.shapes.proofs.run_number.Statement.{statement}

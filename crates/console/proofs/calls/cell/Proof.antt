@@ -1,5 +1,3 @@
-use native.Mathlib.Omega.{arith}
-use denote.Ref.{now}
 use borrow.Author.Needs.{needs}
 use Rattle.console.proofs.calls.cell.Statement.{statement}
 use Rattle.console.proofs.calls.cell.Tie as tie

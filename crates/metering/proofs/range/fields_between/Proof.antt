@@ -1,17 +1,9 @@
 -- `fields_between` meets its contract: the definition's `&&` computes from what `field_between` answered, field by field.
-use mathlib.Core.Path.{_≡_, sym, _∙_}
-use mathlib.Core.Bool.{Bool, true, false, not}
 use borrow.Author.Needs.{needs}
-use borrow.Author.Tests.{not-true, not-false}
+use Rattle.metering.specs.Laws.{failed, passed}
 use Rattle.metering.specs.Range.{fieldsBetween}
 use Rattle.metering.proofs.range.fields_between.Statement.{statement}
 use Rattle.metering.proofs.range.fields_between.Tie as tie
-
-failed : {r x : Bool} → r ≡ x → not r ≡ true → x ≡ false
-failed e t = sym e ∙ not-true _ t
-
-passed : {r x : Bool} → r ≡ x → not r ≡ false → x ≡ true
-passed e t = sym e ∙ not-false _ t
 
 field-between-requires : tie.Need-field-between-requires
 field-between-requires c κs = search needs

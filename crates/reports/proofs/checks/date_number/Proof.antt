@@ -5,7 +5,7 @@ use borrow.Author.Tests.{le-leb, lt-leb}
 use Rattle.ledger.specs.Checks.{runCheck}
 use Rattle.ledger.specs.Ready.{ready}
 use Rattle.ledger.specs.Calls.{cellsUnready}
-use Rattle.reports.proofs.CheckLaws.{failed, held}
+use Rattle.metering.specs.Laws.{failed, passed}
 use Rattle.reports.proofs.checks.date_number.Statement.{statement}
 use Rattle.reports.proofs.checks.date_number.Tie as tie
 
@@ -17,17 +17,17 @@ unfolding runCheck cellsUnready
 returns c = rw (failed (c .before .settings-ready .ensures) (c .if1 .taken))
 
 cells-ready-requires : tie.Need-cells-ready-requires
-cells-ready-requires c κs = held (c .before .settings-ready .ensures) (c .if1 .left)
+cells-ready-requires c κs = passed (c .before .settings-ready .ensures) (c .if1 .left)
 
 returns-2 : tie.Need-returns-2
 unfolding runCheck cellsUnready
 returns-2 c =
     let b = c .before .before in
-    rw (held (b .before .settings-ready .ensures) (b .if1 .left), failed (c .before .cells-ready .ensures) (c .if2 .taken))
+    rw (passed (b .before .settings-ready .ensures) (b .if1 .left), failed (c .before .cells-ready .ensures) (c .if2 .taken))
 
 date-count-requires : tie.Need-date-count-requires
 date-count-requires c κs =
-    let b = c .before .before in let k = ready _ (held (b .before .settings-ready .ensures) (b .if1 .left)) in omega arith
+    let b = c .before .before in let k = ready _ (passed (b .before .settings-ready .ensures) (b .if1 .left)) in omega arith
 
 returns-3 : tie.Need-returns-3
 unfolding runCheck cellsUnready
@@ -35,8 +35,8 @@ returns-3 c =
     let b = c .before .before in
     let b1 = b .before .before in
     rw (
-      held (b1 .before .settings-ready .ensures) (b1 .if1 .left),
-      held (b .before .cells-ready .ensures) (b .if2 .left),
+      passed (b1 .before .settings-ready .ensures) (b1 .if1 .left),
+      passed (b .before .cells-ready .ensures) (b .if2 .left),
       ← c .before .date-count .ensures,
       lt-leb _ _ (c .if3 .taken),
     )
@@ -47,8 +47,8 @@ returns-4 c =
     let b = c .before .before in
     let b1 = b .before .before in
     rw (
-      held (b1 .before .settings-ready .ensures) (b1 .if1 .left),
-      held (b .before .cells-ready .ensures) (b .if2 .left),
+      passed (b1 .before .settings-ready .ensures) (b1 .if1 .left),
+      passed (b .before .cells-ready .ensures) (b .if2 .left),
       ← c .before .date-count .ensures,
       le-leb _ _ (c .if3 .left),
     )

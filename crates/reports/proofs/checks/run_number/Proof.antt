@@ -3,7 +3,8 @@ use native.Mathlib.Omega.{arith}
 use borrow.Author.Needs.{needs}
 use Rattle.ledger.specs.Ready.{ready}
 use Rattle.ledger.specs.Store.{rowOf}
-use Rattle.reports.proofs.CheckLaws.{failed, held, row-within, row-marked}
+use Rattle.metering.specs.Laws.{failed, passed}
+use Rattle.reports.proofs.CheckLaws.{row-within, row-marked}
 use Rattle.reports.proofs.checks.run_number.Statement.{statement}
 use Rattle.reports.proofs.checks.run_number.Tie as tie
 
@@ -39,7 +40,7 @@ returns-2 c =
     rw (
       ← c .before .before .before .category-count .ensures,
       ← c .before .before .period-count .ensures,
-      held (c .before .is-run .ensures) (c .if1 .left),
+      passed (c .before .is-run .ensures) (c .if1 .left),
     )
 
 pub run-number-spec : {M : Type 1} → statement M

@@ -1,5 +1,4 @@
 -- `reports::column::first_cell` meets its contract: the category's cells are among the date's. Assumes nothing.
-use Prim.Native.Nat.{_*_, _≤_}
 use native.Mathlib.Omega.{arith}
 use native.Mathlib.Nat.{mul-le-mul-right, le-of-lt}
 use borrow.Author.Needs.{needs}

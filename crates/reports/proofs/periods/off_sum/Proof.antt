@@ -3,7 +3,6 @@ use Prim.Native.Nat.{_+_, _-_, _*_, _≤_}
 use mathlib.Core.Path.{_∙_}
 use native.Mathlib.Omega.{arith}
 use native.Mathlib.Nat.{mul-le-mul-right}
-use borrow.Author.Needs.{needs}
 use lib.ListN.{getD}
 use Rattle.ledger.specs.Store.{cellOfEntry}
 use Rattle.reports.specs.Column.{offPeak}

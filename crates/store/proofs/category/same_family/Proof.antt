@@ -2,7 +2,8 @@
 use borrow.Author.Needs.{needs}
 use Rattle.ledger.specs.Method.{categoryAt, sameFamily}
 use Rattle.ledger.specs.Store.{categoryOf}
-use Rattle.store.proofs.Laws.{failed, passed, agree, differ}
+use Rattle.metering.specs.Laws.{failed, passed}
+use Rattle.store.proofs.Laws.{agree, differ}
 use Rattle.store.proofs.category.same_family.Statement.{statement}
 use Rattle.store.proofs.category.same_family.Tie as tie
 

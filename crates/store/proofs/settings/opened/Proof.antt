@@ -4,7 +4,7 @@ use mathlib.Core.Path.{_∙_, ap}
 use Rattle.metering.specs.Range.{metersInRange, categoriesInRange, datesInRange}
 use Rattle.metering.specs.Calendar.{durationKnown}
 use Rattle.ledger.specs.Store.{isOpened}
-use Rattle.store.proofs.Laws.{failed, passed}
+use Rattle.metering.specs.Laws.{failed, passed}
 use Rattle.store.proofs.settings.opened.Statement.{statement}
 use Rattle.store.proofs.settings.opened.Tie as tie
 

@@ -4,7 +4,8 @@ use native.Mathlib.Omega.{arith}
 use mathlib.Core.Path.{sym}
 use Rattle.ledger.specs.Store.{settingsReady}
 use Rattle.ledger.specs.Sizes.{settingsLength}
-use Rattle.store.proofs.Laws.{failed, passed, opened-bounds, short-unready}
+use Rattle.metering.specs.Laws.{failed, passed}
+use Rattle.store.proofs.Laws.{opened-bounds, short-unready}
 use Rattle.store.proofs.settings.settings_ready.Statement.{statement}
 use Rattle.store.proofs.settings.settings_ready.Tie as tie
 

@@ -1,0 +1,2 @@
+-- Laws that the opening's proofs share.
+pub mod Laws
