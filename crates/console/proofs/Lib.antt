@@ -1,1 +1,3 @@
+-- Laws that the console's proofs share, and the theorem on conversations.
 pub mod Laws
+pub mod Conversation

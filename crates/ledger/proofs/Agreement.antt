@@ -83,13 +83,13 @@ module _ (o : Opening) where
 
 -- ---- the relation
 
-record Agrees (whole : Lengths) (p : Parts) (l : Ledger) : Type 0 where
+pub record Agrees (whole : Lengths) (p : Parts) (l : Ledger) : Type 0 where
   sound : Sound l
   settings : SettingsAgree (l .opening) (p .settings)
   meters : MetersAgree (l .opening) (p .meters) (l .known)
   readings : ReadingsAgree (l .opening) (p .readings) (l .known)
   cells : CellsAgree (l .opening) (p .cells) (l .pictures)
-  lengths : lengthsOf p ≡ whole
+  pub lengths : lengthsOf p ≡ whole
 
 refused-left : {A : Type 0} (v : Verdict) (before after : A) → eqb (v .number) 0 ≡ false → left v before after ≡ before
 unfolding left
@@ -496,7 +496,7 @@ module _ (p : Parts) (l : Ledger) (agrees : Agrees (lengthsOf p) p l) (n : Lengt
 -- ---- every list of calls
 
 -- a relation that every call keeps while the answers are alike makes the answers to every list alike
-simulation : {S L I A : Type 0} (f : S → I → A) (g : S → I → S) (h : L → I → A) (k : L → I → L) (R : S → L → Type 0) (ok : I → Type 0) →
+pub simulation : {S L I A : Type 0} (f : S → I → A) (g : S → I → S) (h : L → I → A) (k : L → I → L) (R : S → L → Type 0) (ok : I → Type 0) →
     ((s : S) (l : L) (i : I) → R s l → ok i → (f s i ≡ h l i) × R (g s i) (k l i)) →
     (items : List I) → Every ok items → (s : S) (l : L) → R s l → answersFrom f g s items ≡ answersFrom h k l items
 unfolding answersFrom
@@ -505,7 +505,7 @@ simulation f g h k R ok each (i ∷ is) b s l r =
     let e = each s l i r (b .0) in
     ap₂ (λ x xs. x ∷ xs) (e .0) (simulation f g h k R ok each is (b .1) (g s i) (k l i) (e .1))
 
-item-step : (whole : Lengths) (p : Parts) (l : Ledger) (i : Item) → Agrees whole p l → BodyOfBytes (i .call) →
+pub item-step : (whole : Lengths) (p : Parts) (l : Ledger) (i : Item) → Agrees whole p l → BodyOfBytes (i .call) →
     (callAnswer (cut (i .lent) p) (i .call) ≡ ledgerAnswer l (cutLengths (i .lent) whole) (i .call))
     × Agrees whole (partsAfter p i) (ledgerAfter l (cutLengths (i .lent) whole) (i .call))
 item-step whole p l i a b =
@@ -521,7 +521,7 @@ list-agrees items whole p l a b = simulation _ _ _ _ (Agrees whole) (λ i. BodyO
 
 -- ---- from an accepted opening on
 
-opened-agrees : (p : Parts) (a : OpeningCall) → openingVerdict (p .settings) (p .meters) (p .readings) (p .cells) a .number ≡ 0 → Agrees (lengthsOf p) (openedParts p a) (start (opening a))
+pub opened-agrees : (p : Parts) (a : OpeningCall) → openingVerdict (p .settings) (p .meters) (p .readings) (p .cells) a .number ≡ 0 → Agrees (lengthsOf p) (openedParts p a) (start (opening a))
 unfolding openedParts start openedMeters openedReadings openedCells
 opened-agrees p a e =
     let ok = open-step.opening-accepted (p .settings) (p .meters) (p .readings) (p .cells) a e in
