@@ -10,7 +10,7 @@ import argparse
 import random
 import sys
 
-from ledger import DAY, WEIGHTS, Category, Ledger, Registration, opening
+from ledger import DAY, WEIGHTS, Category, Ledger, Opened, Registration, opening
 from program import PROFILES
 
 TOP = 2 ** 32 - 1                          # the largest Wh and limit
@@ -32,16 +32,11 @@ def command(byte, *pairs):
     return bytes([byte]) + b''.join(operands)
 
 
-class Notes:
+class Notes(Opened):
     """What was sent since the opening and is believed accepted."""
 
-    def __init__(self, duration, meters, categories, day_types):
-        self.duration = duration
-        self.meters = meters
-        self.categories = categories
-        self.day_types = day_types
-        self.periods = DAY // duration
-        self.dates = len(day_types)
+    def __init__(self, *opening):
+        super().__init__(*opening)
         self.registrations = {}            # MPAN -> [Registration]
         self.held = {}                     # MPAN -> dates with a set
         self.run = set()

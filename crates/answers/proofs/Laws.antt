@@ -9,8 +9,8 @@ use native.Mathlib.Nat.{pow-suc, pow-le-pow-right, div-lt-iff-lt-mul, le-div-iff
 use lib.ListN.{length, take, drop, set, length-append}
 use lib.Seq.{take-length, take-at, drop-at, take-suc-set, length-take-le, append-snoc}
 use lib.Dec.{ltb, leb, eqb}
+use borrow.Table.Steps.{cases}
 use borrow.Author.Tests.{lt-ltb, le-ltb, ne-eqb, leb-true, leb-false}
-use Rattle.metering.specs.Laws.{by-cases}
 use Rattle.io.specs.Digits.{digits, Fewest}
 use Rattle.answers.specs.Text.{Appended, decimalIn, decimalText, energyText, numberWord, readFrom, readBack}
 
@@ -46,7 +46,7 @@ behind-blank before after at r text h a =
 -- a u64 has at most twenty
 pub digits-bound : (n k : ℕ) → n < 18446744073709551616 → Fewest 10 1 n k → k ≤ 20
 digits-bound n k h f =
-    by-cases (leb k 20) (λ t. leb-true k 20 t) (λ e.
+    cases (leb k 20) (λ t. leb-true k 20 t) (λ e.
     let big : 20 < k = leb-false k 20 e in
     let power : 10 ^ 20 ≤ 10 ^ (k - 1) = pow-le-pow-right {n = 10} (omega arith) {i = 20} {j = k - 1} (omega arith) in
     let low : 10 ^ (k - 1) ≤ n = f .2 (omega arith) in
@@ -108,7 +108,7 @@ pub read-decimal : (most n : ℕ) → n < 10 ^ most → readFrom 0 (decimalIn mo
 unfolding decimalIn
 read-decimal zero n h = let none : n ≡ 0 = omega arith in rw (read-none, none)
 read-decimal (suc most) n h =
-    by-cases (ltb n 10)
+    cases (ltb n 10)
     (λ t. simp (t, read-digit, read-none) (omega arith))
     (λ f.
     let high : n / 10 < 10 ^ most = div-lt-iff-lt-mul {k = 10} {x = n} {y = 10 ^ most} (omega arith) .1 (rw (pow-suc 10 most) at h) in

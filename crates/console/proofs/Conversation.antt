@@ -1,20 +1,20 @@
 -- Conversations: every command prints what the plain ledger says, from an accepted opening to the next.
 use Prim.Native.Nat.{ℕ, zero, suc, _+_, _*_, _/_, _≤_, min}
 use mathlib.Core.Path.{_≡_, refl, sym, ap}
-use mathlib.Core.Bool.{Bool, true, false, _||_}
+use mathlib.Core.Bool.{Bool, true, false}
 use mathlib.Core.List.{List, [], _∷_, _++_, append-nil}
 use native.Mathlib.Omega.{arith}
 use native.Mathlib.Nat.{not-suc-le-zero}
-use lib.Dec.{ltb, eqb}
+use lib.Dec.{eqb}
 use lib.ListN.{length, take, drop}
 use lib.Seq.{take-length, drop-length, getD-drop}
+use borrow.Table.Steps.{cases}
 use borrow.Author.Tests.{lt-ltb, eqb-true, eqb-false, ne-eqb}
-use Rattle.metering.specs.Laws.{by-cases}
-use Rattle.ledger.specs.Sizes.{settingsLength, metersLength, readingsLength, cellsLength}
+use Rattle.ledger.specs.Sizes.{settingsLength}
 use Rattle.ledger.specs.Checks.{Verdict}
-use Rattle.ledger.specs.Ledger.{categories, dates, periods, Ledger, start, Call, answer, accepted, left, settingsShort, metersShort, anyShort, Lengths, ledgerAnswer, ledgerAfter}
-use Rattle.ledger.specs.Calls.{OpeningCall, openingShort, openingVerdict, openedSettings, openedMeters, openedReadings, openedCells}
-use Rattle.ledger.specs.Engine.{Parts, callAnswer, metersAfter, readingsAfter, cellsAfter, cut, partsAfter, cutLengths, lengthsOf, openedParts, opening, AreBytes, BodyOfBytes}
+use Rattle.ledger.specs.Ledger.{Ledger, start, Call, answer, accepted, left, settingsShort, metersShort, anyShort, Lengths, ledgerAnswer, ledgerAfter, Opening}
+use Rattle.ledger.specs.Calls.{openingVerdict, openedSettings, openedMeters, openedReadings, openedCells}
+use Rattle.ledger.specs.Engine.{Parts, callAnswer, metersAfter, readingsAfter, cellsAfter, cut, partsAfter, cutLengths, lengthsOf, openedParts, AreBytes, BodyOfBytes}
 use Rattle.ledger.proofs.Verdicts.{left-none, left-some, accepted-none}
 use Rattle.ledger.proofs.Open.{opening-accepted}
 use Rattle.ledger.proofs.Agreement.{Agrees, item-step, opened-agrees, simulation}
@@ -98,60 +98,45 @@ body-bytes (suc n) b h =
 call-bytes : (b : List ℕ) → AreBytes b → BodyOfBytes (callOf b)
 unfolding callOf
 call-bytes b h =
-    by-cases (eqb (code b) 19)
+    cases (eqb (code b) 19)
     (λ t. rw t tt)
     (λ f. rw f
-    (by-cases (eqb (code b) 20)
+    (cases (eqb (code b) 20)
     (λ t. rw t (body-bytes (receptionAt b .records) b h))
     (λ g. rw g
-    (by-cases (eqb (code b) 22)
+    (cases (eqb (code b) 22)
     (λ t. rw t tt)
     (λ k. rw k
-    (by-cases (eqb (code b) 23)
+    (cases (eqb (code b) 23)
     (λ t. rw t tt)
     (λ q. rw q tt)))))))
 
 -- ---- openings
 
-or-regroup : (a b c d : Bool) → (a || b || c || d) ≡ ((a || b || c) || d)
-or-regroup true b c d = refl
-or-regroup false true c d = refl
-or-regroup false false true d = refl
-or-regroup false false false d = refl
+-- empty parts are short
 
--- the verdict on the parts lent is the plain program's
-
-whole-short : (p : Parts) (a : OpeningCall) → openingShort (p .settings) (p .meters) (p .readings) (p .cells) a ≡ anyShort (opening a) (lengthsOf p)
-unfolding openingShort anyShort metersShort settingsShort
-whole-short p a =
-    let o = opening a in
-    or-regroup
-    (ltb (length (p .settings)) (settingsLength (categories o) (dates o)))
-    (ltb (length (p .meters)) (metersLength (o .meters)))
-    (ltb (length (p .readings)) (readingsLength (o .meters) (dates o) (periods o)))
-    (ltb (length (p .cells)) (cellsLength (categories o) (dates o) (periods o)))
-
-none-short : (a : OpeningCall) → openingShort [] [] [] [] a ≡ true
-unfolding openingShort settingsLength
+none-short : (a : Opening) → anyShort a (record { settings = 0; meters = 0; readings = 0; cells = 0 }) ≡ true
+unfolding anyShort metersShort settingsShort settingsLength
 none-short a = rw (lt-ltb 0 (8 + 8 * (length (a .categoryBytes) / 8) + length (a .dayTypes)) (omega arith))
 
-same-verdict : (m : Most) (p : Parts) (a : OpeningCall) →
+-- the verdict on the parts lent is the plain program's
+same-verdict : (m : Most) (p : Parts) (a : Opening) →
     let b = sufficesFor m a in
     openingVerdict (lent b (p .settings)) (lent b (p .meters)) (lent b (p .readings)) (lent b (p .cells)) a ≡ plainOpening m (lengthsOf p) a
 unfolding openingVerdict plainOpening
 same-verdict m p a =
-    by-cases (sufficesFor m a)
-    (λ t. rw (t, whole-short p a))
+    cases (sufficesFor m a)
+    (λ t. rw t)
     (λ f. rw (f, none-short a))
 
 -- an accepted opening leaves what agrees with the ledger's start
-opened-parts : (p : Parts) (a : OpeningCall) → openingVerdict (p .settings) (p .meters) (p .readings) (p .cells) a .number ≡ 0 → openingLeaves true p a ≡ openedParts p a
+opened-parts : (p : Parts) (a : Opening) → openingVerdict (p .settings) (p .meters) (p .readings) (p .cells) a .number ≡ 0 → openingLeaves true p a ≡ openedParts p a
 unfolding openingLeaves openedParts
 opened-parts p a e =
     let v = openingVerdict (p .settings) (p .meters) (p .readings) (p .cells) a in
     rw (left-none v (p .settings) (openedSettings a (p .settings)) e, left-none v (p .meters) (openedMeters a (p .meters)) e, left-none v (p .readings) (openedReadings a (p .readings)) e, left-none v (p .cells) (openedCells a (p .cells)) e)
 
-accepted-agrees : (suffices : Bool) (p : Parts) (a : OpeningCall) → openingVerdict (lent suffices (p .settings)) (lent suffices (p .meters)) (lent suffices (p .readings)) (lent suffices (p .cells)) a .number ≡ 0 → Agrees (lengthsOf p) (openingLeaves suffices p a) (start (opening a))
+accepted-agrees : (suffices : Bool) (p : Parts) (a : Opening) → openingVerdict (lent suffices (p .settings)) (lent suffices (p .meters)) (lent suffices (p .readings)) (lent suffices (p .cells)) a .number ≡ 0 → Agrees (lengthsOf p) (openingLeaves suffices p a) (start a)
 unfolding settingsLength
 accepted-agrees true p a passes = rw (opened-parts p a passes) (opened-agrees p a passes)
 accepted-agrees false p a passes =
@@ -160,7 +145,7 @@ accepted-agrees false p a passes =
     absurd (not-suc-le-zero none)
 
 -- a refused one leaves all parts
-refused-parts : (suffices : Bool) (p : Parts) (a : OpeningCall) → (openingVerdict (lent suffices (p .settings)) (lent suffices (p .meters)) (lent suffices (p .readings)) (lent suffices (p .cells)) a .number ≡ 0 → ⊥) → openingLeaves suffices p a ≡ p
+refused-parts : (suffices : Bool) (p : Parts) (a : Opening) → (openingVerdict (lent suffices (p .settings)) (lent suffices (p .meters)) (lent suffices (p .readings)) (lent suffices (p .cells)) a .number ≡ 0 → ⊥) → openingLeaves suffices p a ≡ p
 unfolding openingLeaves
 refused-parts true p a fails =
     let v = openingVerdict (p .settings) (p .meters) (p .readings) (p .cells) a in
@@ -192,7 +177,7 @@ module _ (m : Most) (n : Lengths) (s : State) (l : Ledger) (stored : Agrees n (s
   unfolding lineFor plainLine plainAfter
   day-type-step e = stepped _ l (collects-day-type m s b _ e refl) (rw e) stored (rw e)
 
-  abbrev asked : OpeningCall
+  abbrev asked : Opening
   asked = openingOf b (s .categoryBytes) (s .dayTypes)
 
   abbrev suffices : Bool
@@ -201,15 +186,15 @@ module _ (m : Most) (n : Lengths) (s : State) (l : Ledger) (stored : Agrees n (s
   verdict-is : openingVerdict (lent suffices (s .parts .settings)) (lent suffices (s .parts .meters)) (lent suffices (s .parts .readings)) (lent suffices (s .parts .cells)) asked ≡ plainOpening m n asked
   verdict-is = rw (← stored .lengths) (same-verdict m (s .parts) asked)
 
-  opening-leaves : Agrees n (openingLeaves suffices (s .parts) asked) (left (plainOpening m n asked) l (start (opening asked)))
+  opening-leaves : Agrees n (openingLeaves suffices (s .parts) asked) (left (plainOpening m n asked) l (start asked))
   opening-leaves =
-      by-cases (eqb (plainOpening m n asked .number) 0)
+      cases (eqb (plainOpening m n asked .number) 0)
       (λ t.
       let passes = eqb-true _ _ t in
-      rw (left-none (plainOpening m n asked) l (start (opening asked)) passes, ← stored .lengths) (accepted-agrees suffices (s .parts) asked (rw verdict-is passes)))
+      rw (left-none (plainOpening m n asked) l (start asked) passes, ← stored .lengths) (accepted-agrees suffices (s .parts) asked (rw verdict-is passes)))
       (λ f.
       let fails = eqb-false _ _ f in
-      rw (left-some (plainOpening m n asked) l (start (opening asked)) fails, refused-parts suffices (s .parts) asked (rw verdict-is fails)) stored)
+      rw (left-some (plainOpening m n asked) l (start asked) fails, refused-parts suffices (s .parts) asked (rw verdict-is fails)) stored)
 
   opening-step : code b ≡ 16 → Step
   unfolding lineFor plainLine plainAfter openingAnswer
@@ -224,13 +209,13 @@ module _ (m : Most) (n : Lengths) (s : State) (l : Ledger) (stored : Agrees n (s
 
   step : AreBytes b → Step
   step h =
-      by-cases (eqb (code b) 17)
+      cases (eqb (code b) 17)
       (λ t. category-step (eqb-true _ _ t))
       (λ f.
-      by-cases (eqb (code b) 18)
+      cases (eqb (code b) 18)
       (λ t. day-type-step (eqb-true _ _ t))
       (λ g.
-      by-cases (eqb (code b) 16)
+      cases (eqb (code b) 16)
       (λ t. opening-step (eqb-true _ _ t))
       (λ k. call-step (eqb-false _ _ k) (eqb-false _ _ f) (eqb-false _ _ g) h)))
 

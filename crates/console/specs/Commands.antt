@@ -5,8 +5,8 @@ use mathlib.Core.List.{List, [], _++_}
 use lib.ListN.{length, take, drop, getD}
 use lib.Dec.{leb, eqb}
 use Rattle.ledger.specs.Checks.{RegistrationCall, ReceptionCall}
-use Rattle.ledger.specs.Ledger.{Call, register, receive, run, readTotals, readCell, Answer, accepted, answer, left}
-use Rattle.ledger.specs.Calls.{OpeningCall, openingVerdict, openedSettings, openedMeters, openedReadings, openedCells}
+use Rattle.ledger.specs.Ledger.{Call, register, receive, run, readTotals, readCell, Answer, accepted, answer, left, Opening}
+use Rattle.ledger.specs.Calls.{openingVerdict, openedSettings, openedMeters, openedReadings, openedCells}
 use Rattle.ledger.specs.Engine.{Parts, callAnswer, metersAfter, readingsAfter, cellsAfter}
 use Rattle.commands.specs.Operands.{operand, openingAt, registrationAt, receptionAt, bodyOf, runWidths, totalsWidths, cellWidths}
 use Rattle.answers.specs.Lines.{answerLine}
@@ -33,7 +33,7 @@ code command = getD command 0 0
 
 -- ---- openings
 
-abbrev pub openingOf : List ℕ → List ℕ → List ℕ → OpeningCall
+abbrev pub openingOf : List ℕ → List ℕ → List ℕ → Opening
 openingOf command categoryBytes dayTypes =
     record {
       duration = openingAt command .duration;
@@ -47,19 +47,19 @@ unfoldable pub partsSuffice : Most → ℕ → ℕ → ℕ → Bool
 partsSuffice m duration meters dates =
     cond (leb meters (m .meters)) (leb (dates * cond (eqb duration 15) 96 48) (m .datePeriods)) false
 
-abbrev pub sufficesFor : Most → OpeningCall → Bool
+abbrev pub sufficesFor : Most → Opening → Bool
 sufficesFor m a = partsSuffice m (a .duration) (a .meters) (length (a .dayTypes))
 
 -- an opening that the parts do not suffice for is lent empty ones
 abbrev pub lent : Bool → List ℕ → List ℕ
 lent suffices part = cond suffices part []
 
-unfoldable pub openingAnswer : Bool → Parts → OpeningCall → Answer
+unfoldable pub openingAnswer : Bool → Parts → Opening → Answer
 openingAnswer suffices p a =
     answer (openingVerdict (lent suffices (p .settings)) (lent suffices (p .meters)) (lent suffices (p .readings)) (lent suffices (p .cells)) a) accepted
 
 -- and leaves the program's as they were
-unfoldable pub openingLeaves : Bool → Parts → OpeningCall → Parts
+unfoldable pub openingLeaves : Bool → Parts → Opening → Parts
 openingLeaves suffices p a =
     let verdict = openingVerdict (p .settings) (p .meters) (p .readings) (p .cells) a in
     record {

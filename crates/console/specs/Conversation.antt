@@ -6,9 +6,8 @@ use mathlib.Core.List.{List, [], _++_}
 use lib.Dec.{eqb}
 use lib.ListN.{take, drop}
 use Rattle.ledger.specs.Checks.{Verdict, openingCheck}
-use Rattle.ledger.specs.Ledger.{Ledger, start, answer, accepted, left, Lengths, anyShort, ledgerAnswer, ledgerAfter}
-use Rattle.ledger.specs.Calls.{OpeningCall}
-use Rattle.ledger.specs.Engine.{lengthsOf, opening, AreBytes, Every, answersFrom}
+use Rattle.ledger.specs.Ledger.{Ledger, start, answer, accepted, left, Lengths, anyShort, ledgerAnswer, ledgerAfter, Opening}
+use Rattle.ledger.specs.Engine.{lengthsOf, AreBytes, Every, answersFrom}
 use Rattle.answers.specs.Lines.{answerLine}
 use Rattle.console.specs.Commands.{Most, State, code, openingOf, sufficesFor, openingAnswer, callOf, lineFor, stateAfter}
 
@@ -18,9 +17,9 @@ pub record Plain : Type 0 where
   pub ledger : Ledger
 
 -- parts of the lengths n, or empty ones for an opening that they do not suffice for
-unfoldable pub plainOpening : Most → Lengths → OpeningCall → Verdict
+unfoldable pub plainOpening : Most → Lengths → Opening → Verdict
 plainOpening m n a =
-    openingCheck (a .duration) (a .meters) (a .categoryBytes) (a .dayTypes) (not (sufficesFor m a) || anyShort (opening a) n)
+    openingCheck (a .duration) (a .meters) (a .categoryBytes) (a .dayTypes) (not (sufficesFor m a) || anyShort a n)
 
 unfoldable pub plainLine : Most → Lengths → Plain → List ℕ → List ℕ
 plainLine m n x command =
@@ -37,7 +36,7 @@ plainAfter m n x command =
     (cond (eqb (code command) 18)
     (record { categoryBytes = x .categoryBytes; dayTypes = x .dayTypes ++ take 1 (drop 1 command); ledger = x .ledger })
     (cond (eqb (code command) 16)
-    (record { categoryBytes = []; dayTypes = []; ledger = left (plainOpening m n a) (x .ledger) (start (opening a)) })
+    (record { categoryBytes = []; dayTypes = []; ledger = left (plainOpening m n a) (x .ledger) (start a) })
     (record { categoryBytes = x .categoryBytes; dayTypes = x .dayTypes; ledger = ledgerAfter (x .ledger) n (callOf command) })))
 
 -- Demand 3, of the program: from an opening that prints `10 ok` on, every list of commands, further openings among them, prints line for line what the plain ledger says
@@ -50,4 +49,4 @@ Conversation =
     openingAnswer (sufficesFor m a) (s .parts) a ≡ accepted →
     Every AreBytes commands →
     answersFrom (lineFor m) (stateAfter m) (stateAfter m s first) commands
-    ≡ answersFrom (plainLine m n) (plainAfter m n) (record { categoryBytes = []; dayTypes = []; ledger = start (opening a) }) commands
+    ≡ answersFrom (plainLine m n) (plainAfter m n) (record { categoryBytes = []; dayTypes = []; ledger = start a }) commands

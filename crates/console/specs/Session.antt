@@ -1,10 +1,14 @@
 -- What holds of a session between two commands.
-use Prim.Native.Nat.{ℕ, _+_, _≤_}
+use Prim.Native.Nat.{ℕ, _+_, _-_, _≤_}
 use mathlib.Core.Path.{_≡_}
-use mathlib.Core.Bool.{Bool, cond}
-use mathlib.Core.List.{List, [], _++_}
-use lib.ListN.{take}
-use Rattle.console.specs.Commands.{State, partsOf}
+use mathlib.Core.Bool.{Bool, true, cond}
+use mathlib.Core.List.{List, [], _∷_, _++_}
+use lib.ListN.{length, take, drop}
+use lib.Dec.{leb, ltb}
+use Rattle.commands.specs.Form.{extentOf}
+use Rattle.commands.specs.declared.extent.Extent.{Extent}
+use Rattle.commands.specs.declared.extent.Extent.the-variants.{Whole, Cut, Bad}
+use Rattle.console.specs.Commands.{Most, State, partsOf, lineFor, stateAfter}
 use Rattle.console.specs.declared.session.Session.{Session}
 
 -- the bytes not yet taken lie within the input block
@@ -43,3 +47,23 @@ pub record RoomFor (waiting output at : ℕ) : Type 0 where
 pub record Printed (waited line waits : List ℕ) : Type 0 where
   pub written : Bool
   pub behind : waits ≡ cond written [] waited ++ line
+
+-- the last line, `bad`
+abbrev pub badLine : List ℕ
+badLine = 98 ∷ 97 ∷ 100 ∷ 10 ∷ []
+
+-- the bytes that a session has not yet taken
+abbrev pub untaken : Session → List ℕ → List ℕ
+untaken s input = take (s .end - s .at) (drop (s .at) input)
+
+-- the command that they start with, given the room for one category and one day type more
+abbrev pub nextExtent : Session → List ℕ → List ℕ → List ℕ → Extent
+nextExtent s input categoryRecords dayTypes =
+    extentOf (untaken s input) (leb 8 (length categoryRecords - s .«category_bytes»)) (ltb (s .«day_types») (length dayTypes))
+
+-- what a turn does: a whole command is obeyed and passed, of a cut one more is read, and bytes that are none end the dialogue with `bad`
+abbrev pub Turned : Most → Session → State → List ℕ → Extent → List ℕ → Session → State → List ℕ → Type 0
+Turned m s state bytes (Whole n) waited r after waits =
+    (r .at ≡ s .at + n) × (after ≡ stateAfter m state bytes) × Printed waited (lineFor m state bytes) waits
+Turned m s state bytes Cut waited r after waits = after ≡ state
+Turned m s state bytes Bad waited r after waits = (after ≡ state) × (r .over ≡ true) × Printed waited badLine waits

@@ -13,7 +13,7 @@ ghost use Rattle.ledger.specs.Engine.{callAnswer};
 ghost use Rattle.answers.specs.Text.{Appended};
 ghost use Rattle.answers.specs.Lines.{answerLine};
 ghost use Rattle.console.specs.Commands.{partsOf, most, code, callOf, callLeaves, lineFor, stateAfter};
-ghost use Rattle.console.specs.Session.{Window, Held, Room, RoomFor, Printed, stateOf};
+ghost use Rattle.console.specs.Session.{Window, Held, Room, RoomFor, Printed, stateOf, badLine, untaken, nextExtent, Turned};
 
 // The input block's next byte and the one past its last; how much of the lent category records
 // and day types is collected; how much of the output block waits; whether the dialogue is over.
@@ -54,6 +54,7 @@ fn shift(block: &mut [u8], from: usize, count: usize)
 fn append_bad(output: &mut [u8], waiting: usize) -> usize
     requires { ⌜ (waiting ≤ length (now output)) × (300 ≤ length (now output)) ⌝ }
     ensures { λ r. ⌜ r ≤ length (now (output .entry)) ⌝ }
+    ensures { λ r. ⌜ Printed (take waiting (now (output .entry))) badLine (take r (now (output .exit))) ⌝ }
 {
     let at = with_room(&output[..], waiting);
     append(output, at, b"bad\n")
@@ -178,6 +179,7 @@ fn obey(
     next
 }
 
+// One turn of the dialogue: the next command is obeyed, more of it is read, or the bytes are none.
 fn turn(
     session: Session,
     input: &mut [u8],
@@ -195,6 +197,7 @@ fn turn(
     requires { ⌜ Held session (length (now output)) (length (now «category_records»)) (length (now «day_types»)) ⌝ }
     ensures { λ r. ⌜ Window r (length (now (input .entry))) ⌝ }
     ensures { λ r. ⌜ Held r (length (now (output .entry))) (length (now («category_records» .entry))) (length (now («day_types» .entry))) ⌝ }
+    ensures { λ r. ⌜ Turned (most «most_meters» «most_date_periods») session (stateOf session (now («category_records» .entry)) (now («day_types» .entry)) (now (settings .entry)) (now (meters .entry)) (now (readings .entry)) (now (cells .entry))) (untaken session (now (input .entry))) (nextExtent session (now (input .entry)) (now («category_records» .entry)) (now («day_types» .entry))) (take (session .waiting) (now (output .entry))) r (stateOf r (now («category_records» .exit)) (now («day_types» .exit)) (now (settings .exit)) (now (meters .exit)) (now (readings .exit)) (now (cells .exit))) (take (r .waiting) (now (output .exit))) ⌝ }
 {
     let at = session.at;
     let end = session.end;

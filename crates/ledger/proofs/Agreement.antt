@@ -8,6 +8,7 @@ use native.Mathlib.Omega.{arith}
 use lib.Dec.{eqb, leb, ltb}
 use lib.ListN.{length, getD, take, drop, length-take, take-append-drop}
 use lib.Seq.{length-front}
+use borrow.Table.Steps.{cases}
 use borrow.Author.Tests.{eqb-true, leb-false, ltb-true, ltb-false}
 use Rattle.metering.specs.Laws.{between-true}
 use Rattle.metering.specs.Range.{between}
@@ -16,10 +17,10 @@ use Rattle.ledger.specs.Checks.{RegistrationCall, ReceptionCall, Verdict
 use Rattle.ledger.specs.Sizes.{settingsLength, metersLength, readingsLength, cellsLength}
 use Rattle.ledger.specs.Ledger.{Opening, categories, dates, periods, Meter, Ledger, start, Call, register, receive, run, readTotals, readCell, Answer, moved, totalsAre, cellIs, answer, left, Lengths, settingsShort, metersShort, cellsShort, anyShort, ledgerRegistrationCheck, afterRegistration, ledgerReceptionCheck, afterReception, cellAt, isRun, ledgerRunCheck, afterRun, movedBetween, ledgerTotalsCheck, ledgerCellCheck, totalsAt, ledgerAnswer, ledgerAfter}
 use Rattle.ledger.specs.Store.{rowOf, datesOf, categoriesOf, periodsOf, isRunAt}
-use Rattle.ledger.specs.Calls.{metersUnready, runUnready, cellsUnready, OpeningCall, openingVerdict, openedMeters, openedReadings, openedCells, registrationVerdict, registeredMeters, receptionVerdict, receivedReadings, rowAt, runVerdict, ranFrom, totalsVerdict, totalsFor, cellVerdict, cellFor}
-use Rattle.ledger.specs.Engine.{Parts, callAnswer, metersAfter, readingsAfter, cellsAfter, Item, cut, partsAfter, answersFrom, storeAnswers, cutLengths, ledgerAnswers, Every, lengthsOf, openedParts, opening, AreBytes, BodyOfBytes, BodiesOfBytes, Agreement}
+use Rattle.ledger.specs.Calls.{metersUnready, runUnready, cellsUnready, openingVerdict, openedMeters, openedReadings, openedCells, registrationVerdict, registeredMeters, receptionVerdict, receivedReadings, rowAt, runVerdict, ranFrom, totalsVerdict, totalsFor, cellVerdict, cellFor}
+use Rattle.ledger.specs.Engine.{Parts, callAnswer, metersAfter, readingsAfter, cellsAfter, Item, cut, partsAfter, answersFrom, storeAnswers, cutLengths, ledgerAnswers, Every, lengthsOf, openedParts, AreBytes, BodyOfBytes, BodiesOfBytes, Agreement}
 use Rattle.ledger.proofs.Choices.{passed, passed-verdict, not-false, neither}
-use Rattle.ledger.proofs.Lists.{by-cases, getD-cut, getD-back, block-below}
+use Rattle.ledger.proofs.Lists.{getD-cut, getD-back, block-below}
 use Rattle.ledger.proofs.Relation.{SettingsAgree, MeterAt, FreeAt, MetersAgree, HeldAt, NotHeldAt, ReadingsAgree, CellsAgree, Sound}
 use Rattle.ledger.proofs.Slots.{slots-kept}
 use Rattle.ledger.proofs.Registrations.{meter-stands, free-stands, slots-alike}
@@ -148,7 +149,7 @@ module _ (p : Parts) (l : Ledger) (agrees : Agrees (lengthsOf p) p l) (n : Lengt
       let short : metersUnready (cut n p .settings) (cut n p .meters) (cut n p .readings) ≡ metersShort (l .opening) (lengthsOf (cut n p)) =
       (unfold cut in meters-unready (l .opening) (p .settings) (n .settings) (agrees .sound .valid) (agrees .settings) (take (n .meters) (p .meters)) (take (n .readings) (p .readings)) (length (take (n .cells) (p .cells)))) in
       rw short
-      (by-cases (metersShort (l .opening) (lengthsOf (cut n p)))
+      (cases (metersShort (l .opening) (lengthsOf (cut n p)))
       (λ q. rw q (unfold registrationCheck in refl))
       (λ q.
       let e = enough-meters q in
@@ -253,7 +254,7 @@ module _ (p : Parts) (l : Ledger) (agrees : Agrees (lengthsOf p) p l) (n : Lengt
       record {
         answers = rw v;
         leaves =
-            by-cases (eqb (c .number) 0)
+            cases (eqb (c .number) 0)
             (λ q.
             rw (meters-written (register a) reg (rw v (accepted-left c (cut n p .meters) reg q)) refl refl, accepted-left c l (afterRegistration l a) q)
             (registration-taken a (eqb-true (c .number) 0 q)))
@@ -268,7 +269,7 @@ module _ (p : Parts) (l : Ledger) (agrees : Agrees (lengthsOf p) p l) (n : Lengt
       let short : metersUnready (cut n p .settings) (cut n p .meters) (cut n p .readings) ≡ metersShort (l .opening) (lengthsOf (cut n p)) =
       (unfold cut in meters-unready (l .opening) (p .settings) (n .settings) (agrees .sound .valid) (agrees .settings) (take (n .meters) (p .meters)) (take (n .readings) (p .readings)) (length (take (n .cells) (p .cells)))) in
       rw short
-      (by-cases (metersShort (l .opening) (lengthsOf (cut n p)))
+      (cases (metersShort (l .opening) (lengthsOf (cut n p)))
       (λ q. rw q (unfold receptionCheck in refl))
       (λ q.
       let e = enough-meters q in
@@ -314,7 +315,7 @@ module _ (p : Parts) (l : Ledger) (agrees : Agrees (lengthsOf p) p l) (n : Lengt
       record {
         answers = rw v;
         leaves =
-            by-cases (eqb (c .number) 0)
+            cases (eqb (c .number) 0)
             (λ q.
             rw (readings-written (receive a) got refl (rw v (accepted-left c (cut n p .readings) got q)) refl, accepted-left c l (afterReception l a) q)
             (reception-taken a bytes (eqb-true (c .number) 0 q)))
@@ -329,7 +330,7 @@ module _ (p : Parts) (l : Ledger) (agrees : Agrees (lengthsOf p) p l) (n : Lengt
       let short : runUnready (cut n p .settings) (cut n p .meters) (cut n p .readings) (cut n p .cells) ≡ anyShort (l .opening) (lengthsOf (cut n p)) =
       (unfold cut in run-unready (l .opening) (p .settings) (n .settings) (agrees .sound .valid) (agrees .settings) (take (n .meters) (p .meters)) (take (n .readings) (p .readings)) (take (n .cells) (p .cells))) in
       rw short
-      (by-cases (anyShort (l .opening) (lengthsOf (cut n p)))
+      (cases (anyShort (l .opening) (lengthsOf (cut n p)))
       (λ q. rw q (unfold runCheck in refl))
       (λ q. let e = enough-all q in rw (q, e .0 .dates-are)))
 
@@ -386,7 +387,7 @@ module _ (p : Parts) (l : Ledger) (agrees : Agrees (lengthsOf p) p l) (n : Lengt
   -- answers whose values are equal where the call is accepted
   same-answer : (v : Verdict) (x y : Answer) → (v .number ≡ 0 → x ≡ y) → answer v x ≡ answer v y
   unfolding answer
-  same-answer v x y h = by-cases (eqb (v .number) 0) (λ q. rw (q, h (eqb-true (v .number) 0 q))) (λ q. rw q)
+  same-answer v x y h = cases (eqb (v .number) 0) (λ q. rw (q, h (eqb-true (v .number) 0 q))) (λ q. rw q)
 
   run-step : (d : ℕ) → Step (run d)
   unfolding callAnswer ledgerAnswer ledgerAfter metersAfter readingsAfter cellsAfter
@@ -397,7 +398,7 @@ module _ (p : Parts) (l : Ledger) (agrees : Agrees (lengthsOf p) p l) (n : Lengt
       record {
         answers = rw v (same-answer c _ _ (λ e. ap moved (run-reports d e)));
         leaves =
-            by-cases (eqb (c .number) 0)
+            cases (eqb (c .number) 0)
             (λ q.
             rw (cells-written (run d) new refl refl (rw v (accepted-left c (cut n p .cells) new q)), accepted-left c l (afterRun l d) q)
             (run-taken d (eqb-true (c .number) 0 q)))
@@ -417,12 +418,12 @@ module _ (p : Parts) (l : Ledger) (agrees : Agrees (lengthsOf p) p l) (n : Lengt
       ≡ readCheck (cellsShort (l .opening) (lengthsOf (cut n p))) (dates (l .opening)) d in-ledger (isRun l d)
   unfolding readCheck
   read-check d a b h =
-      by-cases (cellsShort (l .opening) (lengthsOf (cut n p)))
+      cases (cellsShort (l .opening) (lengthsOf (cut n p)))
       (λ q. rw q)
       (λ q.
       let e = enough-cells q in
       rw (q, e .0 .dates-are, h q)
-      (by-cases (leb (dates (l .opening)) d)
+      (cases (leb (dates (l .opening)) d)
       (λ w. rw w)
       (λ w. rw (run-is l (cut n p .settings) (cut n p .cells) (e .0) (e .1) (agrees .sound) d (leb-false (dates (l .opening)) d w)))))
 
@@ -521,16 +522,16 @@ list-agrees items whole p l a b = simulation _ _ _ _ (Agrees whole) (λ i. BodyO
 
 -- ---- from an accepted opening on
 
-pub opened-agrees : (p : Parts) (a : OpeningCall) → openingVerdict (p .settings) (p .meters) (p .readings) (p .cells) a .number ≡ 0 → Agrees (lengthsOf p) (openedParts p a) (start (opening a))
+pub opened-agrees : (p : Parts) (a : Opening) → openingVerdict (p .settings) (p .meters) (p .readings) (p .cells) a .number ≡ 0 → Agrees (lengthsOf p) (openedParts p a) (start a)
 unfolding openedParts start openedMeters openedReadings openedCells
 opened-agrees p a e =
     let ok = open-step.opening-accepted (p .settings) (p .meters) (p .readings) (p .cells) a e in
     record {
       sound = record { valid = ok .valid; meters = tt; few = omega arith; pictures-are = λ d q z. absurd (let y : _≡_ {A = ℕ} 0 1 = cc in omega arith) };
       settings = open-step.settings-agree a (p .settings) (ok .valid .whole) (ok .settings-long);
-      meters = open-step.meters-agree (opening a) (p .meters) (ok .meters-long);
-      readings = open-step.readings-agree (opening a) (p .readings) (ok .readings-long);
-      cells = open-step.cells-agree (opening a) (p .cells) (ok .cells-long);
+      meters = open-step.meters-agree a (p .meters) (ok .meters-long);
+      readings = open-step.readings-agree a (p .readings) (ok .readings-long);
+      cells = open-step.cells-agree a (p .cells) (ok .cells-long);
       lengths =
           λ i.
           record {
@@ -543,4 +544,4 @@ opened-agrees p a e =
 
 -- Demand 3
 pub agreement : Agreement
-agreement p a items e b = list-agrees items (lengthsOf p) (openedParts p a) (start (opening a)) (opened-agrees p a e) b
+agreement p a items e b = list-agrees items (lengthsOf p) (openedParts p a) (start a) (opened-agrees p a e) b

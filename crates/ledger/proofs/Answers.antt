@@ -6,13 +6,14 @@ use mathlib.Core.List.{List}
 use native.Mathlib.Omega.{arith}
 use native.Mathlib.Nat.{mul-le-mul-right}
 use lib.Dec.{leb}
+use borrow.Table.Steps.{cases}
 use Rattle.metering.specs.Average.{annual}
 use Rattle.metering.specs.Calendar.{liesWithin, windowStart, windowEnd}
 use Rattle.ledger.specs.Method.{Cell, isFresh, isBlank, overRunDates, totOn, offOn, peakOn, totalsOn}
 use Rattle.ledger.specs.Ledger.{categories, dates, periods, category, dayType, Ledger, cellAt, isPicture, isRun, totalsAt}
 use Rattle.ledger.specs.Store.{periodsOf, rowOf, cellIndex, cellOfEntry, isRunAt}
 use Rattle.ledger.specs.Calls.{rowAt, cellFor, totalsFor}
-use Rattle.ledger.proofs.Lists.{by-cases, sumBelow-cong, block-below}
+use Rattle.ledger.proofs.Lists.{sumBelow-cong, block-below}
 use Rattle.ledger.proofs.Entries.{cell-entry}
 use Rattle.ledger.proofs.Columns.{cell-small}
 use Rattle.ledger.proofs.Rows.{columnCell, run-at}
@@ -27,10 +28,10 @@ unfolding overRunDates
 over-cong run run′ n f f′ d r h =
     sumBelow-cong n _ _
     (λ k l.
-    by-cases (leb k d)
+    cases (leb k d)
     (λ q.
     let below : d - k ≤ d = omega arith in
-    rw (q, ← (r (d - k) below)) (by-cases (run (d - k)) (λ w. rw (w, h (d - k) below w)) (λ w. rw w)))
+    rw (q, ← (r (d - k) below)) (cases (run (d - k)) (λ w. rw (w, h (d - k) below w)) (λ w. rw w)))
     (λ q. rw q))
 
 module _ (duration periods w : ℕ) (run run′ : ℕ → Bool) (cell cell′ : ℕ → ℕ → Cell) (d : ℕ) (same : (x : ℕ) → x ≤ d → run x ≡ run′ x)

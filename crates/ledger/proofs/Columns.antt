@@ -6,9 +6,9 @@ use mathlib.Core.Bool.{Bool, true, false}
 use native.Mathlib.Omega.{arith}
 use native.Mathlib.Nat.{add-zero, add-suc}
 use lib.Dec.{eqb}
+use borrow.Table.Steps.{cases}
 use borrow.Author.Tests.{eqb-true, eqb-false}
 use Rattle.ledger.specs.Method.{Fresh, Cell, blank, cellFrom, Day, notRun, ran, pass, latest, cellOf, cellOn}
-use Rattle.ledger.proofs.Lists.{by-cases}
 use Rattle.ledger.proofs.Entries.{Small, SmallFresh, blank-small, cellFrom-small}
 
 -- a date that is run or not, with its own shape if it is
@@ -78,7 +78,7 @@ module _ (dayType : ℕ → ℕ) (old new : ℕ → Day) (date : ℕ) (alike : (
   pub latest-other : (t : ℕ) → eqb (dayType date) t ≡ false → (d : ℕ) → latest dayType old t d ≡ latest dayType new t d
   latest-other t other zero = unfold latest in refl
   latest-other t other (suc d) =
-      by-cases (eqb d date)
+      cases (eqb d date)
       (λ q.
       let e = eqb-true d date q in
       let p : eqb (dayType d) t ≡ false = rw e other in

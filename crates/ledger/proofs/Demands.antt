@@ -9,6 +9,7 @@ use native.Mathlib.Omega.{arith}
 use native.Mathlib.Nat.{add-zero, zero-add, add-suc, suc-add, mul-le-mul-right}
 use lib.Dec.{eqb, leb, ltb}
 use lib.ListN.{length}
+use borrow.Table.Steps.{cases}
 use borrow.Author.Tests.{eq-eqb, ne-eqb, eqb-true, eqb-false, leb-false, lt-leb, le-ltb, ltb-false}
 use Rattle.metering.specs.Mpan.{mpanValid}
 use Rattle.metering.specs.Range.{between}
@@ -18,7 +19,7 @@ use Rattle.ledger.specs.Method.{Category, Picture, freshIn, Fresh, absen
 use Rattle.ledger.specs.Checks.{Registration, ReceptionCall, verdict, firstFailed, anyBelow, endMinute, quality, wattHoursAt, recordNumber, bodyCheck, inForceCheck, receptionCheck, runCheck, readCheck, totalsInRange, cellInRange}
 use Rattle.ledger.specs.Ledger.{Opening, categories, dates, periods, category, dayType, Ledger, Answer, refused, moved, totalsAre, cellIs, answer, Lengths, metersShort, cellsShort, anyShort, meterWith, currentOf, at, cellBy, cellAt, dayOf, isPicture, isRun, ledgerReceptionCheck, ledgerRunCheck, ledgerTotalsCheck, ledgerCellCheck, pictureOf, afterRun, movedBetween, totalsAt, ledgerAnswer}
 use Rattle.ledger.specs.Demands.{GoodRecord, MayReceive, ReceptionExact, RunIsMethod, NeverNotRun, SecondRunMovesNothing, SamePicturesSameCells, CopiesHaveOrigins}
-use Rattle.ledger.proofs.Lists.{by-cases, below-suc, sumBelow-none}
+use Rattle.ledger.proofs.Lists.{below-suc, sumBelow-none}
 use Rattle.ledger.proofs.Entries.{moved-same}
 use Rattle.ledger.proofs.Verdicts.{accepted-none}
 use Rattle.ledger.proofs.Choices.{passed, passed-verdict, not-false}
@@ -69,7 +70,7 @@ same-pictures-same-cells l m o h d c j = rw (o, fun-ext h)
 
 same-picture : (l : Ledger) (d x : ℕ) → afterRun l d .pictures x ≡ afterRun (afterRun l d) d .pictures x
 unfolding afterRun at
-same-picture l d x = by-cases (eqb x d) (λ q. rw q) (λ q. rw q)
+same-picture l d x = cases (eqb x d) (λ q. rw q) (λ q. rw q)
 
 still : (l : Ledger) (d : ℕ) → movedBetween (afterRun l d .opening) (cellAt (afterRun l d)) (cellAt (afterRun (afterRun l d) d)) ≡ 0
 unfolding movedBetween
@@ -193,7 +194,7 @@ any-false : (n : ℕ) (f : ℕ → Bool) → anyBelow n f ≡ false → (k : ℕ
 unfolding anyBelow
 any-false zero f e k h = absurd (omega arith)
 any-false (suc n) f e k h =
-    by-cases (anyBelow n f)
+    cases (anyBelow n f)
     (λ q. absurd (true≢false (rw q at e)))
     (λ q. let last : f n ≡ false = rw q at e in below-suc (λ x. f x ≡ false) n (any-false n f q) last k h)
 
@@ -260,11 +261,11 @@ module _ (o : Opening) (r : Registration) (body : List ℕ) (k : ℕ) (known : d
       )
     where
       status-8 : (eqb (r .status) 2 && ltb 9 (quality body k)) ≡ false
-      status-8 = by-cases (eqb (r .status) 2) (λ q. rw (q, le-ltb 9 (quality body k) (g .de-energised (eqb-true (r .status) 2 q)))) (λ q. rw q)
+      status-8 = cases (eqb (r .status) 2) (λ q. rw (q, le-ltb 9 (quality body k) (g .de-energised (eqb-true (r .status) 2 q)))) (λ q. rw q)
 
       zero-11 : (between 10 13 (quality body k) && not (eqb (wattHoursAt body k) 0)) ≡ false
       zero-11 =
-          by-cases (between 10 13 (quality body k))
+          cases (between 10 13 (quality body k))
           (λ q. let b = between-true 10 13 (quality body k) .0 q in rw (q, eq-eqb (wattHoursAt body k) 0 (g .zero-energy (b .0) (b .1))))
           (λ q. rw q)
 

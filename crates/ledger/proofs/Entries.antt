@@ -5,12 +5,12 @@ use mathlib.Core.Logic.{_≢_}
 use mathlib.Core.Bool.{true, false, cond}
 use native.Mathlib.Omega.{arith}
 use lib.Dec.{eqb}
+use borrow.Table.Steps.{cases}
 use borrow.Author.Tests.{eq-eqb, eqb-true, eqb-false}
 use Rattle.ledger.specs.Method.{Flag, A, D, E, N, flagNumber, Cell, blank, carried, sameCell, movedCell, Fresh, absent, own, pooled, cellFrom}
 use Rattle.ledger.specs.Store.{entryOf, flagOf, flagNumberOf, cellOfEntry}
 use Rattle.ledger.specs.Calls.{carriedEntry, isOwn, rowEntry}
 use Rattle.ledger.specs.Ready.{both}
-use Rattle.ledger.proofs.Lists.{by-cases}
 
 -- what an entry has room for
 pub record Small (a : Cell) : Type 0 where
@@ -85,14 +85,14 @@ same-entry a b h =
 pub moved-entry : (a b : Cell) → Small a → Small b → cond (eqb (entryOf a) (entryOf b)) 0 1 ≡ movedCell a b
 unfolding movedCell
 moved-entry a b s t =
-    by-cases (eqb (entryOf a) (entryOf b))
+    cases (eqb (entryOf a) (entryOf b))
     (λ e. rw e (rw (entry-same a b s t (eqb-true _ _ e), sameCell-refl b)))
-    (λ e. rw e (by-cases (sameCell a b) (λ q. absurd (eqb-false _ _ e (same-entry a b q))) (λ q. rw q)))
+    (λ e. rw e (cases (sameCell a b) (λ q. absurd (eqb-false _ _ e (same-entry a b q))) (λ q. rw q)))
 
 pub unmoved : (a b : Cell) → Small a → Small b → movedCell a b ≡ 0 → a ≡ b
 unfolding movedCell
 unmoved a b s t h =
-    by-cases (sameCell a b) (λ q. entry-same a b s t (same-entry a b q)) (λ q. let z : _≡_ {A = ℕ} 1 0 = rw q at h in absurd (omega arith))
+    cases (sameCell a b) (λ q. entry-same a b s t (same-entry a b q)) (λ q. let z : _≡_ {A = ℕ} 1 0 = rw q at h in absurd (omega arith))
 
 pub moved-same : (a : Cell) → movedCell a a ≡ 0
 unfolding movedCell

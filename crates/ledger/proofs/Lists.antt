@@ -13,7 +13,6 @@ use lib.Arith.{digits-div}
 use lib.Dec.{eqb}
 use borrow.Author.Tests.{eq-eqb, ne-eqb}
 use Rattle.metering.specs.Sum.{sumBelow, sumBelow-suc}
-pub use Rattle.metering.specs.Laws.{by-cases}
 use Rattle.ledger.specs.Table.{tabulate}
 
 -- what holds below n and at n holds below suc n

@@ -9,6 +9,7 @@ use native.Mathlib.Nat.{add-assoc}
 use lib.Dec.{eqb, ltb}
 use lib.ListN.{length, getD, drop, replicate, length-append, length-drop, length-replicate, getD-replicate, List·getD-append}
 use lib.Seq.{getD-append-add, getD-drop}
+use borrow.Table.Steps.{cases}
 use borrow.Author.Tests.{eqb-true, eq-eqb, ltb-false}
 use Rattle.metering.specs.Range.{between, metersInRange, categoriesInRange, datesInRange}
 use Rattle.metering.specs.Calendar.{durationKnown, periodsPerDay}
@@ -16,12 +17,11 @@ use Rattle.metering.specs.Laws.{between-true, duration-is}
 use Rattle.ledger.specs.Method.{categoryAt}
 use Rattle.ledger.specs.Checks.{Verdict, verdict, firstFailed, categoryNumber, dayTypeNumber, orElse, sizesValid, openingCheck}
 use Rattle.ledger.specs.Sizes.{settingsLength, metersLength, readingsLength, cellsLength}
-use Rattle.ledger.specs.Ledger.{Opening, categories, dates, periods}
+use Rattle.ledger.specs.Ledger.{Opening, categories, dates, periods, anyShort, metersShort, settingsShort}
 use Rattle.ledger.specs.Store.{word, wordBytes, durationOf, metersOf, categoriesOf, datesOf, categoryOf, dayTypeOf, mpanAt, registrationIndex, registrationAt, setIndex, isHeldAt}
-use Rattle.ledger.specs.Calls.{OpeningCall, openingShort, openingVerdict, emptied, openedSettings, rowAt}
-use Rattle.ledger.specs.Engine.{opening}
+use Rattle.ledger.specs.Calls.{openingVerdict, emptied, openedSettings, rowAt}
 use Rattle.ledger.proofs.Choices.{passed-verdict, not-false, neither}
-use Rattle.ledger.proofs.Lists.{by-cases, block-below}
+use Rattle.ledger.proofs.Lists.{block-below}
 use Rattle.ledger.proofs.Relation.{Valid, SettingsAgree, FreeAt, MetersAgree, ReadingsAgree, CellsAgree}
 use Rattle.ledger.proofs.Receive.{set-below}
 
@@ -30,19 +30,19 @@ use Rattle.ledger.proofs.Receive.{set-below}
 passed-else : (a b : Verdict) → orElse a b .number ≡ 0 → (a .number ≡ 0) × (b .number ≡ 0)
 unfolding orElse
 passed-else a b e =
-    by-cases (eqb (a .number) 0)
+    cases (eqb (a .number) 0)
     (λ q. (eqb-true (a .number) 0 q, rw q at e))
     (λ q. let z : a .number ≡ 0 = rw q at e in absurd (true≢false (sym (eq-eqb (a .number) 0 z) ∙ q)))
 
-pub record Opened (settings meters readings cells : List ℕ) (a : OpeningCall) : Type 0 where
-  pub valid : Valid (opening a)
+pub record Opened (settings meters readings cells : List ℕ) (a : Opening) : Type 0 where
+  pub valid : Valid a
   pub settings-long : settingsLength (length (a .categoryBytes) / 8) (length (a .dayTypes)) ≤ length settings
   pub meters-long : metersLength (a .meters) ≤ length meters
   pub readings-long : readingsLength (a .meters) (length (a .dayTypes)) (periodsPerDay (a .duration)) ≤ length readings
   pub cells-long : cellsLength (length (a .categoryBytes) / 8) (length (a .dayTypes)) (periodsPerDay (a .duration)) ≤ length cells
 
-pub opening-accepted : (settings meters readings cells : List ℕ) (a : OpeningCall) → openingVerdict settings meters readings cells a .number ≡ 0 → Opened settings meters readings cells a
-unfolding openingVerdict openingCheck openingShort sizesValid metersInRange categoriesInRange datesInRange
+pub opening-accepted : (settings meters readings cells : List ℕ) (a : Opening) → openingVerdict settings meters readings cells a .number ≡ 0 → Opened settings meters readings cells a
+unfolding openingVerdict openingCheck anyShort metersShort settingsShort sizesValid metersInRange categoriesInRange datesInRange
 opening-accepted settings meters readings cells a e =
     let p3 = passed-verdict (not (durationKnown (a .duration) && between 1 1024 (a .meters) && eqb (length (a .categoryBytes) % 8) 0 && between 1 64 (length (a .categoryBytes) / 8) && between 1 800 (length (a .dayTypes)))) 2 _ e in
     let p4 = passed-else (firstFailed (categoryNumber (a .categoryBytes)) (length (a .categoryBytes) / 8) 0) _ (p3 .1) in
@@ -77,7 +77,7 @@ opening-accepted settings meters readings cells a e =
 
 -- ---- settings
 
-module _ (a : OpeningCall) (settings : List ℕ) (whole : length (a .categoryBytes) ≡ 8 * (length (a .categoryBytes) / 8)) where
+module _ (a : Opening) (settings : List ℕ) (whole : length (a .categoryBytes) ≡ 8 * (length (a .categoryBytes) / 8)) where
   rest : List ℕ
   rest = drop (settingsLength (length (a .categoryBytes) / 8) (length (a .dayTypes))) settings
 
@@ -130,7 +130,7 @@ module _ (a : OpeningCall) (settings : List ℕ) (whole : length (a .categoryByt
       let z = length-drop (8 + 8 * (length (a .categoryBytes) / 8) + length (a .dayTypes)) settings in
       omega (arith, whole)
 
-  pub settings-agree : settingsLength (length (a .categoryBytes) / 8) (length (a .dayTypes)) ≤ length settings → SettingsAgree (opening a) (openedSettings a settings)
+  pub settings-agree : settingsLength (length (a .categoryBytes) / 8) (length (a .dayTypes)) ≤ length settings → SettingsAgree a (openedSettings a settings)
   unfolding durationOf metersOf datesOf word openedSettings wordBytes
   settings-agree h =
       record {

@@ -10,6 +10,7 @@ use native.Mathlib.Nat.{zero-add}
 use native.Mathlib.Numerals.{add-one}
 use lib.Dec.{eqb, leb, ltb}
 use lib.ListN.{length, length-append}
+use borrow.Table.Steps.{cases}
 use borrow.Author.Tests.{eq-eqb, ne-eqb, leb-false, lt-ltb, ltb-true}
 use Rattle.metering.specs.Mpan.{mpanValid}
 use Rattle.metering.specs.Range.{between}
@@ -19,7 +20,6 @@ use Rattle.ledger.specs.Ledger.{Opening, categories, dates, Meter, Ledge
 use Rattle.ledger.specs.Store.{usedFrom, metersOf, datesOf, categoriesOf, periodsOf, mpanAt, slotOf, registrationAt, registrationsAt, knownAt, putRegistration}
 use Rattle.ledger.specs.Calls.{usedOf, slotFor, registrationsFor, heldFromAt, registeredMeters}
 use Rattle.ledger.proofs.Choices.{passed, not-false}
-use Rattle.ledger.proofs.Lists.{by-cases}
 use Rattle.ledger.proofs.Relation.{SoundRegistrations, SoundMeter, SoundMeters, SettingsAgree, MeterAt, FreeAt, MetersAgree, HeldAt, NotHeldAt, ReadingsAgree, Sound}
 use Rattle.ledger.proofs.Slots.{positionOf, position-new, at-position, free-past, slots-changed, slots-added, slot-is}
 use Rattle.ledger.proofs.Registrations.{SlotSame, meter-stands, free-stands, length-put, put-mpan, put-registration, put-others, put-slots, used-more}
@@ -46,7 +46,7 @@ module _ (o : Opening) (s m r : List ℕ) (known : List Meter) (agree : Settings
       ≡ registrationsOf x
   found-as none e =
       let p = position-new mpan 0 known e ∙ zero-add (length known) in
-      by-cases (ltb (positionOf mpan 0 known) (o .meters))
+      cases (ltb (positionOf mpan 0 known) (o .meters))
       (λ q.
       let l = ltb-true (positionOf mpan 0 known) (o .meters) q in
       let f = free-past (o .meters) (MeterAt (o .meters) m) (FreeAt (o .meters) m) 0 known (metersAgree .slots) .1 (positionOf mpan 0 known) (omega (arith, p, zero-add (length known))) l in
@@ -89,7 +89,7 @@ pub registration-check : (l : Ledger) (s m r : List ℕ) → SettingsAgree (l .o
     (registrationsOf (meterWith (a .mpan) (l .known))) a
 unfolding registrationCheck
 registration-check l s m r agree metersAgree readingsAgree sound a =
-    by-cases (mpanValid (a .mpan))
+    cases (mpanValid (a .mpan))
     (λ q.
     let numbered : a .mpan ≢ 0 = λ (w : a .mpan ≡ 0). let b = mpanValid-bounds (a .mpan) q in omega arith in
     rw (
@@ -144,7 +144,7 @@ pub sound-changed : (C mpan : ℕ) (f : Meter → Meter) (ms : List Meter) (m : 
 unfolding meterWith changed
 sound-changed C mpan f [] m e s g = (tt, refl)
 sound-changed C mpan f (x ∷ ms) m e s g =
-    by-cases (eqb (x .mpan) mpan)
+    cases (eqb (x .mpan) mpan)
     (λ q.
     let same : x ≡ m = (let z : some x ≡ some m = rw q at e in cc) in
     rw q ((rw same (g (rw same at (s .0))), s .1), refl))

@@ -10,12 +10,13 @@ use lib.Arith.{lt-of-le-ne}
 use lib.Dec.{eqb, leb}
 use lib.ListN.{length, getD, set, length-set}
 use lib.Seq.{sets, length-sets, getD-set-same, getD-set-other}
+use borrow.Table.Steps.{cases}
 use borrow.Author.Tests.{eq-eqb, ne-eqb, leb-true, leb-false}
 use Rattle.ledger.specs.Checks.{Registration}
 use Rattle.ledger.specs.Sizes.{metersLength}
 use Rattle.ledger.specs.Ledger.{Meter}
 use Rattle.ledger.specs.Store.{mpanAt, registrationIndex, registrationAt, usedFrom, registrationsAt, putRegistration}
-use Rattle.ledger.proofs.Lists.{by-cases, getD-sets-below, getD-sets-above, getD-sets-at}
+use Rattle.ledger.proofs.Lists.{getD-sets-below, getD-sets-above, getD-sets-at}
 use Rattle.ledger.proofs.Relation.{MeterAt, FreeAt}
 
 -- ---- slots that stand
@@ -43,7 +44,7 @@ used-same : (M : ℕ) (m m′ : List ℕ) (x : ℕ) → ((k : ℕ) → k < 8 →
 used-same M m m′ x same zero k h = used-end M m′ x k ∙ sym (used-end M m x k)
 used-same M m m′ x same (suc n) k h =
     let e = same k (omega arith) in
-    by-cases (eqb (registrationAt M m x k .status) 0)
+    cases (eqb (registrationAt M m x k .status) 0)
     (λ q. used-none M m′ x n k (rw e q) ∙ sym (used-none M m x n k q))
     (λ q.
     used-one M m′ x n k (rw e q)
@@ -128,7 +129,7 @@ module _ (M mpan slot k : ℕ) (r : Registration) (m : List ℕ) (hs : slot < M)
   put-others j h n =
       five-same M m (putRegistration M mpan slot k r m) slot j
       (λ f g.
-      by-cases (leb (suc j) k)
+      cases (leb (suc j) k)
       (λ q. put-below _ (λ (e : M + 40 * slot + 5 * j + f ≡ slot). omega arith) (let l = leb-true (suc j) k q in omega arith))
       (λ q. put-above _ (λ (e : M + 40 * slot + 5 * j + f ≡ slot). omega arith) (let l = leb-false (suc j) k q in let p = lt-of-le-ne {i = k} {k = j} (omega arith) (λ (e : k ≡ j). n (sym e)) in omega arith)))
 
@@ -141,7 +142,7 @@ module _ (M mpan slot k : ℕ) (r : Registration) (m : List ℕ) (hs : slot < M)
         registrations = λ j l.
             five-same M m (putRegistration M mpan slot k r m) x j
             (λ f g.
-            by-cases (leb (suc x) slot)
+            cases (leb (suc x) slot)
             (λ q. put-below _ (λ (e : M + 40 * x + 5 * j + f ≡ slot). omega arith) (let p = leb-true (suc x) slot q in omega arith))
             (λ q. put-above _ (λ (e : M + 40 * x + 5 * j + f ≡ slot). omega arith) (let p = leb-false (suc x) slot q in let w = lt-of-le-ne {i = slot} {k = x} (omega arith) (λ (e : slot ≡ x). n (sym e)) in omega arith)));
       }
@@ -164,7 +165,7 @@ module _ (M : ℕ) (m m′ : List ℕ) (x : ℕ) (r : Registration) (used : r .s
       none zero p = used-end M m′ x (suc k)
       none (suc n) p = used-none M m′ x n (suc k) (eq-eqb _ 0 (p (suc k) (omega arith) (omega arith)))
   used-more (y ∷ rs) (suc n) k e h same here past =
-      by-cases (eqb (registrationAt M m x k .status) 0)
+      cases (eqb (registrationAt M m x k .status) 0)
       (λ q. absurd (let z : _≡_ {A = ℕ} 0 1 = cc (used-none M m x n k q) in omega arith))
       (λ q.
       let first = used-one M m x n k q in

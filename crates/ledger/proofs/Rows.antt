@@ -11,13 +11,14 @@ use lib.Arith.{lt-of-le-ne}
 use lib.Dec.{eqb, leb}
 use lib.ListN.{length, getD}
 use lib.Seq.{sets, sets-eq, length-sets}
+use borrow.Table.Steps.{cases}
 use borrow.Author.Tests.{eq-eqb, ne-eqb, eqb-true, eqb-false, leb-true, leb-false}
 use Rattle.metering.specs.Sum.{sumBelow, sumBelow-suc}
 use Rattle.ledger.specs.Method.{A, D, E, N, flagNumber, Fresh, Cell, blank, carried, cellFrom, movedCell, Day, latest, cellOn}
 use Rattle.ledger.specs.Table.{tabulate}
 use Rattle.ledger.specs.Store.{rowOf, dayTypeOf, entryOf, flagNumberOf, isRunAt}
 use Rattle.ledger.specs.Calls.{carriedEntry, rowEntry, rowAt, putRow, lastRun, overFrom, seen, differing, Ran, followRow, overAfter, movedInRow, carryOn}
-use Rattle.ledger.proofs.Lists.{by-cases, below-suc, getD-sets-below, getD-sets-above, getD-sets-at, length-tabulate, getD-tabulate, sumBelow-cong, sumBelow-none, none-of-sum, sumBelow-more}
+use Rattle.ledger.proofs.Lists.{below-suc, getD-sets-below, getD-sets-above, getD-sets-at, length-tabulate, getD-tabulate, sumBelow-cong, sumBelow-none, none-of-sum, sumBelow-more}
 use Rattle.ledger.proofs.Entries.{Small, SmallFresh, flag-entry, entry-some, moved-entry, unmoved, moved-same, carry-entry, row-entry, follow-entry, over-entry}
 use Rattle.ledger.proofs.Columns.{dayIf, latest-other-type, latest-not-run, latest-run, cell-run, cell-not-run, latest-small, cell-small, latest-before, latest-other, latest-after, cell-alike}
 
@@ -39,7 +40,7 @@ module _ (n d : ℕ) (row cells : List ℕ) (long : length row ≡ n) (fits : d 
   unfolding rowAt
   row-kept x k other h =
       rw put-sets
-      (by-cases (leb (suc x) d)
+      (cases (leb (suc x) d)
       (λ q. getD-sets-below row cells (d * n) (x * n + k) (let l = leb-true (suc x) d q in omega (arith, mul-le-mul-right n l)))
       (λ q. getD-sets-above row cells (d * n) (x * n + k) (rw long (let l = leb-false (suc x) d q in above (lt-of-le-ne (omega arith) (λ (e : d ≡ x). other (sym e)))))))
     where
@@ -168,7 +169,7 @@ module _ (s : List ℕ) (n T : ℕ) (dt : ℕ → ℕ) (places : 0 < n) (few : T
   passed-alike : (k d : ℕ) → date < d → (eqb (dt d) (dt date) && runO d) ≡ false → cellO k d ≡ cellN k d
   unfolding cellO cellN
   passed-alike k d h e =
-      by-cases (runO d)
+      cases (runO d)
       (λ r.
       cell-alike dt (columnDay runO freshO k) (columnDay runN freshN k) date (alike k) d (λ (q : d ≡ date). omega arith)
       (latest-other dt (columnDay runO freshO k) (columnDay runN freshN k) date (alike k) (dt d) (other r) d))
@@ -204,7 +205,7 @@ module _ (s : List ℕ) (n T : ℕ) (dt : ℕ → ℕ) (places : 0 < n) (few : T
       where
         still : (k : ℕ) → latest dt (columnDay runN freshN k) (dt date) (suc d) ≡ latest dt (columnDay runN freshN k) (dt date) d
         still k =
-            by-cases (eqb (dt d) (dt date))
+            cases (eqb (dt d) (dt date))
             (λ q. latest-not-run dt (columnDay runN freshN k) (dt date) d (rw (← (runAlike d not-date)) (let z : runO d ≡ false = rw q at e in rw z)))
             (λ q. latest-other-type dt (columnDay runN freshN k) (dt date) d q)
 
@@ -282,12 +283,12 @@ module _ (s : List ℕ) (n T : ℕ) (dt : ℕ → ℕ) (places : 0 < n) (few : T
       later-same : movedInRow n cells d over ≡ 0 → (x k : ℕ) → d ≤ x → k < n → cellO k x ≡ cellN k x
       unfolding cellO cellN latestO latestN
       later-same z x k l m =
-          by-cases (eqb x d)
+          cases (eqb x d)
           (λ e. rw (eqb-true x d e) (still-same z k m))
           (λ e.
           cell-alike dt (columnDay runO freshO k) (columnDay runN freshN k) date (alike k) x
           (λ (w : x ≡ date). let p = c .past in omega arith)
-          (by-cases (eqb (dt date) (dt x))
+          (cases (eqb (dt date) (dt x))
           (λ w.
           rw (← (eqb-true (dt date) (dt x) w), ← (gap x (lt-of-le-ne l (λ (v : d ≡ x). eqb-false x d e (sym v)))))
           (latest-after dt (columnDay runO freshO k) (columnDay runN freshN k) date (alike k) (dt date) (suc d) (let p = c .past in omega arith) (met k (still-same z k m)) (x - suc d)))
@@ -300,7 +301,7 @@ module _ (s : List ℕ) (n T : ℕ) (dt : ℕ → ℕ) (places : 0 < n) (few : T
       stop-good z =
           record {
             cells-are = λ x k l m.
-                by-cases (leb (suc x) d)
+                cases (leb (suc x) d)
                 (λ e. c .new-rows x k (leb-true (suc x) d e) m)
                 (λ e.
                 let g : d ≤ x = (let w = leb-false (suc x) d e in omega arith) in
@@ -331,10 +332,10 @@ module _ (s : List ℕ) (n T : ℕ) (dt : ℕ → ℕ) (places : 0 < n) (few : T
   walk L room (suc m) over d cells moved e c =
       let h : d < T = omega (arith, e) in
       let e′ : suc d + m ≡ T = suc-add d m ∙ sym (add-suc d m) ∙ e in
-      by-cases (eqb (dt d) (dt date) && runO d)
+      cases (eqb (dt d) (dt date) && runO d)
       (λ b.
       let p = and-eq-true-iff (eqb (dt d) (dt date)) (runO d) .0 b in
-      by-cases (eqb (movedInRow n cells d over) 0)
+      cases (eqb (movedInRow n cells d over) 0)
       (λ z.
       rw (carryOn-stop s (dt date) m over d cells moved (test-is L over d cells moved c h ∙ b) (rw rowIs z))
       (stop-good L over d cells moved c h (p .0) (p .1) (eqb-true _ _ z)))
@@ -360,7 +361,7 @@ module _ (s : List ℕ) (n T : ℕ) (dt : ℕ → ℕ) (places : 0 < n) (few : T
     over-from : (t d : ℕ) → d ≤ T → (k : ℕ) → k < n → overFrom n cells (lastRun s cells t d) k ≡ entryOf (carried (latestO k t d))
     over-from t zero h k l = unfold lastRun latestO latest carried blank in refl
     over-from t (suc d) h k l =
-        by-cases (eqb (dt d) t && runO d)
+        cases (eqb (dt d) t && runO d)
         (λ b.
         let p = and-eq-true-iff (eqb (dt d) t) (runO d) .0 b in
         rw (last-here t d h b)
@@ -386,7 +387,7 @@ module _ (s : List ℕ) (n T : ℕ) (dt : ℕ → ℕ) (places : 0 < n) (few : T
         before : (t d k : ℕ) → (eqb (dt d) t && runO d) ≡ false → latestO k t (suc d) ≡ latestO k t d
         before t d k e =
             unfold latestO in
-            by-cases (eqb (dt d) t)
+            cases (eqb (dt d) t)
             (λ q. latest-not-run dt (columnDay runO freshO k) t d (let z : runO d ≡ false = rw q at e in rw z))
             (λ q. latest-other-type dt (columnDay runO freshO k) t d q)
 
@@ -405,7 +406,7 @@ module _ (s : List ℕ) (n T : ℕ) (dt : ℕ → ℕ) (places : 0 < n) (few : T
       seen-is : (k : ℕ) → k < n → seen (rowAt n cells date k) ≡ entryOf (cellO k date)
       unfolding seen
       seen-is k l =
-          by-cases (runO date)
+          cases (runO date)
           (λ r. rw (old-entry date k h l, r, ne-eqb (entryOf (cellO k date)) 0 (entry-some (cellO k date))))
           (λ r. rw (old-entry date k h l, r) (ap entryOf (sym (unfold cellO in cell-not-run dt (columnDay runO freshO k) 0 date (rw r)))))
 

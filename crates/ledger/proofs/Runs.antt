@@ -10,6 +10,7 @@ use native.Mathlib.Nat.{mod-lt, div-lt-iff-lt-mul, mul-le-mul-right}
 use lib.Arith.{digits-div, digits-mod}
 use lib.Dec.{eqb, leb}
 use lib.ListN.{length, length-append}
+use borrow.Table.Steps.{cases}
 use borrow.Author.Tests.{eq-eqb, ne-eqb, leb-true}
 use Rattle.metering.specs.Average.{average}
 use Rattle.metering.specs.Laws.{average-le}
@@ -21,7 +22,7 @@ use Rattle.ledger.specs.Ledger.{Opening, categories, dates, periods, cat
 use Rattle.ledger.specs.Table.{tabulate}
 use Rattle.ledger.specs.Store.{periodsOf, rowOf, categoryOf}
 use Rattle.ledger.specs.Calls.{familyTally, freshAt, carriedEntry, rowEntry, rowAt, putRow, lastRun, overFrom, seen, differing, carryOn, newRow, ranFrom}
-use Rattle.ledger.proofs.Lists.{by-cases, sumBelow-cong, sumBelow-rows}
+use Rattle.ledger.proofs.Lists.{sumBelow-cong, sumBelow-rows}
 use Rattle.ledger.proofs.Entries.{SmallFresh}
 use Rattle.ledger.proofs.Columns.{dayIf}
 use Rattle.ledger.proofs.Rows.{columnCell, RunLeaves, run-good}
@@ -36,11 +37,11 @@ average-small s n h l = let p = average-le s n 4294967295 h l in omega arith
 fresh-small : (a : Category) (s n S K : ℕ) → s ≤ n * 4294967295 → n ≤ 1024 → S ≤ K * 4294967295 → K ≤ 1024 → SmallFresh (freshOf a s n S K)
 unfolding freshOf
 fresh-small a s n S K l m L k =
-    by-cases (leb 1 n && leb (a .deMinimis) n)
+    cases (leb 1 n && leb (a .deMinimis) n)
     (λ e. rw e (average-small s n (leb-true 1 n (and-eq-true-iff (leb 1 n) (leb (a .deMinimis) n) .0 e .0)) l, omega arith))
     (λ e.
     rw e
-    (by-cases (isSmart a && leb 1 K && leb (a .deMinimis) K)
+    (cases (isSmart a && leb 1 K && leb (a .deMinimis) K)
     (λ q. rw q (average-small S K (leb-true 1 K (and-eq-true-iff (isSmart a) (leb 1 K) .0 (and-eq-true-iff (isSmart a && leb 1 K) (leb (a .deMinimis) K) .0 q .0) .1)) L, omega arith))
     (λ q. rw q tt)))
 
@@ -155,7 +156,7 @@ module _ (l : Ledger) (s meters readings cells : List ℕ) (sound : Sound l) (ag
   pub after-sound : (d : ℕ) (p : Picture) → at date (some (pictureOf date (l .known))) (l .pictures) d ≡ some p → SoundPicture (categories (l .opening)) p × (length p ≤ 1024)
   unfolding at
   after-sound d p e =
-      by-cases (eqb d date)
+      cases (eqb d date)
       (λ q.
       let same : pictureOf date (l .known) ≡ p = (let z : some (pictureOf date (l .known)) ≡ some p = rw q at e in cc) in
       rw (← same) (

@@ -8,6 +8,7 @@ use native.Mathlib.Omega.{arith}
 use lib.Dec.{leb, ltb}
 use lib.ListN.{length, getD, take, drop, length-take}
 use lib.Seq.{getD-drop}
+use borrow.Table.Steps.{cases}
 use borrow.Author.Tests.{leb-true, leb-false, le-leb, lt-leb, lt-ltb, le-ltb}
 use Rattle.metering.specs.Range.{between, metersInRange, categoriesInRange, datesInRange}
 use Rattle.metering.specs.Calendar.{durationKnown}
@@ -16,7 +17,7 @@ use Rattle.ledger.specs.Sizes.{settingsLength, metersLength, readingsLen
 use Rattle.ledger.specs.Ledger.{Opening, categories, dates, periods, settingsShort, metersShort, cellsShort, anyShort}
 use Rattle.ledger.specs.Store.{word, durationOf, metersOf, categoriesOf, datesOf, periodsOf, categoryOf, dayTypeOf, isOpened, settingsReady, metersReady, readingsReady, cellsReady}
 use Rattle.ledger.specs.Calls.{metersUnready, runUnready, cellsUnready}
-use Rattle.ledger.proofs.Lists.{by-cases, getD-cut}
+use Rattle.ledger.proofs.Lists.{getD-cut}
 use Rattle.ledger.proofs.Relation.{Valid, SettingsAgree}
 
 -- ---- cut, and long enough
@@ -92,14 +93,14 @@ settings-unready o s n a h =
     let l = length-take n s in
     let long : settingsLength (categories o) (dates o) ≤ length s = a .long in
     rw (lt-leb (8 + 8 * word (take n s) 2 + word (take n s) 3) (length (take n s))
-    (by-cases (leb 8 n)
+    (cases (leb 8 n)
     (λ q. rw (word-cut n s 2 (leb-true 8 n q) (omega arith), word-cut n s 3 (leb-true 8 n q) (omega arith), a .categories-are, a .dates-are) h)
     (λ q. let m = leb-false 8 n q in omega arith)))
     (and-false (isOpened (take n s)))
 
 not-leb : (a b : ℕ) → not (leb a b) ≡ ltb b a
 not-leb a b =
-    by-cases (leb a b)
+    cases (leb a b)
     (λ q. rw (q, le-ltb b a (leb-true a b q)))
     (λ q. rw (q, lt-ltb b a (leb-false a b q)))
 
@@ -111,7 +112,7 @@ not-and false b = refl
 module _ (o : Opening) (s : List ℕ) (n : ℕ) (v : Valid o) (a : SettingsAgree o s) where
   settings-short : not (settingsReady (take n s)) ≡ ltb (length (take n s)) (settingsLength (categories o) (dates o))
   settings-short =
-      by-cases (leb (settingsLength (categories o) (dates o)) (length (take n s)))
+      cases (leb (settingsLength (categories o) (dates o)) (length (take n s)))
       (λ q.
       let l = leb-true (settingsLength (categories o) (dates o)) (length (take n s)) q in
       rw (settings-ready o (take n s) v (settings-cut o s n a l), le-ltb (length (take n s)) (settingsLength (categories o) (dates o)) l))
@@ -124,7 +125,7 @@ module _ (o : Opening) (s : List ℕ) (n : ℕ) (v : Valid o) (a : SettingsAgree
       (not (settingsReady (take n s)) || f) ≡ (ltb (length (take n s)) (settingsLength (categories o) (dates o)) || g)
   guard f g h =
       rw settings-short
-      (by-cases (leb (settingsLength (categories o) (dates o)) (length (take n s)))
+      (cases (leb (settingsLength (categories o) (dates o)) (length (take n s)))
       (λ q. rw (h (leb-true (settingsLength (categories o) (dates o)) (length (take n s)) q)))
       (λ q. rw (lt-ltb (length (take n s)) (settingsLength (categories o) (dates o)) (leb-false (settingsLength (categories o) (dates o)) (length (take n s)) q))))
 

@@ -9,10 +9,10 @@ use native.Mathlib.Omega.{arith}
 use native.Mathlib.Nat.{add-zero, add-suc, suc-add}
 use lib.Dec.{eqb}
 use lib.ListN.{length}
+use borrow.Table.Steps.{cases}
 use borrow.Author.Tests.{ne-eqb, eqb-true}
 use Rattle.ledger.specs.Ledger.{Meter, meterWith, changed}
 use Rattle.ledger.specs.Store.{mpanAt, slotFrom}
-use Rattle.ledger.proofs.Lists.{by-cases}
 use Rattle.ledger.proofs.Relation.{SoundMeters, SlotsFrom, MetersFrom}
 
 -- the slot of the first meter with an MPAN, counted from i; past the last where there is none
@@ -56,7 +56,7 @@ module _ (mpan : ℕ) (m : Meter) (ms : List Meter) where
 pub position-new : (mpan i : ℕ) (ms : List Meter) → meterWith mpan ms ≡ none → positionOf mpan i ms ≡ i + length ms
 position-new mpan i [] e = unfold positionOf in sym (add-zero i)
 position-new mpan i (m ∷ ms) e =
-    by-cases (eqb (m .mpan) mpan)
+    cases (eqb (m .mpan) mpan)
     (λ q. absurd (let z : _≡_ {A = ℕ} 0 1 = cc (found-here mpan m ms q) in omega arith))
     (λ q. position-later mpan m ms i q ∙ position-new mpan (suc i) ms (sym (found-later mpan m ms q) ∙ e) ∙ suc-add i (length ms) ∙ sym (add-suc i (length ms)))
 
@@ -66,7 +66,7 @@ module _ (M : ℕ) (At : ℕ → Meter → Type 0) (Free : ℕ → Type 0) where
       (positionOf mpan i ms < M) × At (positionOf mpan i ms) m × (m .mpan ≡ mpan)
   at-position mpan i [] m a e = absurd (let z : _≡_ {A = ℕ} 0 1 = (unfold meterWith in cc) in omega arith)
   at-position mpan i (x ∷ ms) m a e =
-      by-cases (eqb (x .mpan) mpan)
+      cases (eqb (x .mpan) mpan)
       (λ q.
       let same : x ≡ m = cc (found-here mpan x ms q) in
       rw (position-here mpan x ms i q, ← same) (a .0, a .1, eqb-true (x .mpan) mpan q))
@@ -93,7 +93,7 @@ module _ (M : ℕ) (At : ℕ → Meter → Type 0) (Free : ℕ → Type 0) where
         SlotsFrom M At′ Free′ i (changed mpan change ms)
     slots-changed mpan change i [] m a e f here g = absurd (let z : _≡_ {A = ℕ} 0 1 = (unfold meterWith in cc) in omega arith)
     slots-changed mpan change i (x ∷ ms) m a e f here g =
-        by-cases (eqb (x .mpan) mpan)
+        cases (eqb (x .mpan) mpan)
         (λ q.
         let same : x ≡ m = cc (found-here mpan x ms q) in
         let p = position-here mpan x ms i q in
@@ -151,7 +151,7 @@ module _ (mpan M : ℕ) (meters : List ℕ) (some-mpan : mpan ≢ 0) where
       slot-stops n i (rw (a .1 i (omega arith) (omega (arith, e)) .no-mpan) (either (eqb 0 mpan))) ∙ (unfold positionOf in refl)
   slot-is C zero i (m ∷ ms) e s a = absurd (let l = a .0 in omega arith)
   slot-is C (suc n) i (m ∷ ms) e s a =
-      by-cases (eqb (m .mpan) mpan)
+      cases (eqb (m .mpan) mpan)
       (λ q. slot-stops n i (rw (a .1 .mpan-is, q)) ∙ sym (position-here mpan m ms i q))
       (λ q.
       slot-goes-on n i (rw (a .1 .mpan-is, q, ne-eqb (m .mpan) 0 (s .0 .numbered)))

@@ -5,8 +5,8 @@ use mathlib.Core.Bool.{Bool, true, false, cond, or-true, or-false}
 use native.Mathlib.Omega.{arith}
 use native.Mathlib.Numerals.{add-one}
 use lib.Dec.{eqb}
+use borrow.Table.Steps.{cases}
 use borrow.Author.Tests.{eq-eqb, ne-eqb, eqb-true, eqb-false}
-use Rattle.metering.specs.Laws.{by-cases}
 use Rattle.ledger.specs.Checks.{Verdict, verdict, firstFailed, anyBelow, orElse}
 use Rattle.ledger.specs.Ledger.{Answer, answer, accepted, refused, left}
 
@@ -64,7 +64,7 @@ module _ (v : Verdict) (n : ℕ) (is : n ≡ v .number) where
 pub accepted-none : (v : Verdict) → accepted ≡ answer v accepted → v .number ≡ 0
 unfolding answer
 accepted-none v e =
-    by-cases (eqb (v .number) 0) (λ t. eqb-true _ _ t) (λ t. let z : accepted ≡ refused (v .number) (v .place) = rw t at e in cc)
+    cases (eqb (v .number) 0) (λ t. eqb-true _ _ t) (λ t. let z : accepted ≡ refused (v .number) (v .place) = rw t at e in cc)
 
 pub refused-some : (v : Verdict) (n p : ℕ) → refused n p ≡ answer v accepted → v .number ≡ 0 → ⊥
 refused-some v n p e h =
@@ -98,11 +98,6 @@ or-cond false n m rest e = refl
 pub cond-zero : (b : Bool) (n rest : ℕ) → eqb n 0 ≡ false → cond b n rest ≡ 0 → (b ≡ false) × (rest ≡ 0)
 cond-zero true n rest e h = absurd (eqb-false _ _ e h)
 cond-zero false n rest e h = (refl, h)
-
-pub or-zero : (a b : Verdict) → orElse a b .number ≡ 0 → b .number ≡ 0
-unfolding orElse
-or-zero a b e =
-    by-cases (eqb (a .number) 0) (λ t. rw t at e) (λ t. absurd (eqb-false _ _ t (rw t at e)))
 
 -- a loop over n things, of which those below i passed: r is the number of thing i
 

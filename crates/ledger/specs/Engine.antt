@@ -4,7 +4,7 @@ use mathlib.Core.Path.{_≡_}
 use mathlib.Core.List.{List, [], _∷_, _++_}
 use lib.ListN.{length, getD, take, drop}
 use Rattle.ledger.specs.Ledger.{Opening, Ledger, start, Call, register, receive, run, readTotals, readCell, Answer, accepted, moved, totalsAre, cellIs, answer, left, Lengths, ledgerAnswer, ledgerAfter}
-use Rattle.ledger.specs.Calls.{OpeningCall, openingVerdict, openedSettings, openedMeters, openedReadings, openedCells, registrationVerdict, registeredMeters, receptionVerdict, receivedReadings, runVerdict, ranFrom, totalsVerdict, totalsFor, cellVerdict, cellFor}
+use Rattle.ledger.specs.Calls.{openingVerdict, openedSettings, openedMeters, openedReadings, openedCells, registrationVerdict, registeredMeters, receptionVerdict, receivedReadings, runVerdict, ranFrom, totalsVerdict, totalsFor, cellVerdict, cellFor}
 
 -- the parts of a store
 pub record Parts : Type 0 where
@@ -101,7 +101,7 @@ lengthsOf p =
     record { settings = length (p .settings); meters = length (p .meters); readings = length (p .readings); cells = length (p .cells) }
 
 -- the parts after an accepted opening
-unfoldable pub openedParts : Parts → OpeningCall → Parts
+unfoldable pub openedParts : Parts → Opening → Parts
 openedParts p a =
     record {
       settings = openedSettings a (p .settings);
@@ -109,9 +109,6 @@ openedParts p a =
       readings = openedReadings a (p .readings);
       cells = openedCells a (p .cells);
     }
-
-abbrev pub opening : OpeningCall → Opening
-opening a = record { duration = a .duration; meters = a .meters; categoryBytes = a .categoryBytes; dayTypes = a .dayTypes }
 
 -- a body is made of bytes
 abbrev pub AreBytes : List ℕ → Type 0
@@ -135,7 +132,7 @@ BodiesOfBytes items = Every (λ i. BodyOfBytes (i .call)) items
 -- Demand 3: for every opening that is accepted and every list of calls with the lengths lent, the answers are those of the plain ledger
 abbrev pub Agreement : Type 0
 Agreement =
-    (p : Parts) (a : OpeningCall) (items : List Item) →
+    (p : Parts) (a : Opening) (items : List Item) →
     openingVerdict (p .settings) (p .meters) (p .readings) (p .cells) a .number ≡ 0 →
     BodiesOfBytes items →
-    storeAnswers (openedParts p a) items ≡ ledgerAnswers (start (opening a)) (lengthsOf p) items
+    storeAnswers (openedParts p a) items ≡ ledgerAnswers (start a) (lengthsOf p) items

@@ -7,16 +7,13 @@ use native.Mathlib.Nat.{mul-div-le, lt-mul-div-succ, div-eq-of-lt-le, div-lt-iff
 use native.Mathlib.Omega.{arith}
 use lib.ListN.{getD}
 use lib.Dec.{eqb, leb, leb·zero}
+use borrow.Table.Steps.{cases}
 use borrow.Author.Tests.{leb-true, le-leb, lt-leb, eqb-true, not-true, not-false}
 use Rattle.metering.specs.Average.{average, annual}
 use Rattle.metering.specs.Calendar.{durationKnown, periodsPerDay, periodEnding, liesWithin, windowStart, windowEnd}
 use Rattle.metering.specs.Sum.{sumBelow, sumBelow-le}
 use Rattle.metering.specs.Mpan.{weights, digit, product, weightedSum, checkDigit, mpanValid}
 use Rattle.metering.specs.Range.{between}
-
-pub by-cases : {P : Type 0} (b : Bool) → (b ≡ true → P) → (b ≡ false → P) → P
-by-cases true t f = t refl
-by-cases false t f = f refl
 
 -- what a call answered, and the negated test on it
 
@@ -64,7 +61,7 @@ annual-365 s = refl
 pub annual-is : (s d : ℕ) → 0 < d → annual s d ≡ average (s * 365) d
 unfolding annual
 annual-is s d h =
-    by-cases (eqb d 365)
+    cases (eqb d 365)
     (λ e. rw e (average-is (s * 365) d s h .0 (rw (eqb-true d 365 e) (omega arith))))
     (λ e. rw e)
 
@@ -97,7 +94,7 @@ mpanValid-bounds n e = both-leb 1 n n 9999999999999 .0 (and-eq-true-iff _ _ .0 e
 pub duration-is : (d : ℕ) → durationKnown d ≡ true → (d ≡ 15) ⊎ (d ≡ 30)
 unfolding durationKnown
 duration-is d e =
-    by-cases (eqb d 15) (λ h. inl (eqb-true _ _ h)) (λ h. inr (eqb-true _ _ (rw h at e)))
+    cases (eqb d 15) (λ h. inl (eqb-true _ _ h)) (λ h. inr (eqb-true _ _ (rw h at e)))
 
 pub duration-pos : (d : ℕ) → durationKnown d ≡ true → 0 < d
 duration-pos d e = ⊎-elim (λ h. omega arith) (λ h. omega arith) (duration-is d e)
@@ -125,7 +122,7 @@ periodEnding-at d j hd hj h = rw (mul-mod-left, le-leb _ _ h) (mul-div-cancel j 
 pub periodEnding-is : (d e j : ℕ) → 0 < d → periodEnding d e ≡ j → j ≢ 0 → (e ≡ j * d) × (e ≤ 1440)
 unfolding periodEnding
 periodEnding-is d e j hd h ne =
-    by-cases (eqb (e % d) 0 && leb e 1440)
+    cases (eqb (e % d) 0 && leb e 1440)
     (λ b. let p = and-eq-true-iff (eqb (e % d) 0) (leb e 1440) .0 b in
     (sym (rw (rw b at h, eqb-true (e % d) 0 (p .0)) at (div-add-mod' e d)) ∙ add-zero _, leb-true _ _ (p .1)))
     (λ b. absurd (ne (sym (rw b at h))))
@@ -133,7 +130,7 @@ periodEnding-is d e j hd h ne =
 pub periodEnding-le : (d e : ℕ) → durationKnown d ≡ true → periodEnding d e ≤ periodsPerDay d
 unfolding periodEnding periodsPerDay
 periodEnding-le d e k =
-    by-cases (eqb (e % d) 0 && leb e 1440)
+    cases (eqb (e % d) 0 && leb e 1440)
     (λ b. let last : e ≤ 1440 = leb-true _ _ (and-eq-true-iff (eqb (e % d) 0) (leb e 1440) .0 b .1) in
     rw b (le-div-iff-mul-le (duration-pos d k) .1 (le-trans (div-mul-le-self e d) last)))
     (λ b. rw b (omega arith))

@@ -1,52 +1,17 @@
--- What sizes that are in range give, and the settings as they are written.
-use Prim.Native.Nat.{ℕ, _+_, _*_, _/_, _%_, _≤_}
-use mathlib.Core.Path.{_≡_, refl, sym, _∙_}
-use mathlib.Core.Bool.{Bool, true, false, _&&_, _||_, cond, and-eq-true-iff, true≢false}
-use mathlib.Core.List.{List, _++_}
-use mathlib.Core.Logic.{⊎-elim}
+-- What the opening's checks say, one after the other, and what is left then.
+use Prim.Native.Nat.{ℕ, _/_}
+use mathlib.Core.Path.{_≡_, refl, sym}
+use mathlib.Core.Bool.{Bool, true, false, cond}
+use mathlib.Core.List.{List}
 use native.Mathlib.Omega.{arith}
-use lib.ListN.{length, length-append}
-use lib.Seq.{sets, sets-eq}
-use borrow.Author.Tests.{eqb-true, ltb-false}
-use Rattle.metering.specs.Range.{metersInRange, categoriesInRange, datesInRange}
-use Rattle.metering.specs.Calendar.{durationKnown, periodsPerDay}
-use Rattle.metering.specs.Laws.{between-true, duration-is}
-use Rattle.ledger.specs.Sizes.{settingsLength, metersLength, readingsLength, cellsLength}
-use Rattle.ledger.specs.Store.{wordBytes}
+use lib.ListN.{length}
+use borrow.Table.Steps.{cases}
 use Rattle.ledger.specs.Checks.{verdict, firstFailed, orElse, categoryNumber, dayTypeNumber, sizesValid, openingCheck}
-use Rattle.ledger.specs.Ledger.{answer, accepted, refused}
-use Rattle.ledger.specs.Calls.{OpeningCall, openingShort, openingVerdict, openedSettings, openedMeters, openedReadings, openedCells}
-use Rattle.opening.specs.Opening.{openingCall, anyShort, Opened}
-use Rattle.metering.specs.Laws.{by-cases}
-use Rattle.ledger.proofs.Lists.{sets-append}
-use Rattle.ledger.proofs.Verdicts.{left-none, left-some, accepted-none, refused-some, or-refused, or-accepted, or-zero}
-
-pub record Sized (duration M : ℕ) (bytes dayTypes : List ℕ) : Type 0 where
-  pub known : durationKnown duration ≡ true
-  pub short : duration ≤ 30
-  pub meters : M ≤ 1024
-  pub whole : length bytes % 8 ≡ 0
-  pub categories : length bytes / 8 ≤ 64
-  pub dates : length dayTypes ≤ 800
-
-both : (a b : Bool) → a && b ≡ true → (a ≡ true) × (b ≡ true)
-both a b h = and-eq-true-iff a b .0 h
-
-pub sized : (d M : ℕ) (bytes dayTypes : List ℕ) → sizesValid d M bytes dayTypes ≡ true → Sized d M bytes dayTypes
-unfolding sizesValid metersInRange categoriesInRange datesInRange
-sized d M bytes dayTypes h =
-    let p = both _ _ h in
-    let q = both _ _ (p .0) in
-    let r = both _ _ (q .0) in
-    let t = both _ _ (r .0) in
-    record {
-      known = t .0;
-      short = ⊎-elim (λ e. omega arith) (λ e. omega arith) (duration-is d (t .0));
-      meters = between-true 1 1024 M .0 (t .1) .1;
-      whole = eqb-true _ _ (r .1);
-      categories = between-true 1 64 _ .0 (q .1) .1;
-      dates = between-true 1 800 _ .0 (p .1) .1;
-    }
+use Rattle.ledger.specs.Ledger.{anyShort, answer, accepted, refused, Opening}
+use Rattle.ledger.specs.Calls.{openingVerdict, openedSettings, openedMeters, openedReadings, openedCells}
+use Rattle.ledger.proofs.Open as open-step
+use Rattle.opening.specs.Opening.{lengths, Opened}
+use Rattle.ledger.proofs.Verdicts.{left-none, left-some, accepted-none, refused-some, or-refused, or-accepted}
 
 -- the checks, one after the other
 
@@ -82,45 +47,22 @@ module _ (d M : ℕ) (bytes dayTypes : List ℕ) (short : Bool) where
         unfolding answer
         opening-accepted e = rw (opening-last, e)
 
--- what an accepted opening knows: its sizes are in range, and each part is long enough
-pub record Fitting (S M R C : List ℕ) (a : OpeningCall) : Type 0 where
-  pub valid : sizesValid (a .duration) (a .meters) (a .categoryBytes) (a .dayTypes) ≡ true
-  pub settings : settingsLength (length (a .categoryBytes) / 8) (length (a .dayTypes)) ≤ length S
-  pub meters : metersLength (a .meters) ≤ length M
-  pub readings : readingsLength (a .meters) (length (a .dayTypes)) (periodsPerDay (a .duration)) ≤ length R
-  pub cells : cellsLength (length (a .categoryBytes) / 8) (length (a .dayTypes)) (periodsPerDay (a .duration)) ≤ length C
-
 valid-passed : (d M : ℕ) (bytes dayTypes : List ℕ) (short : Bool) → openingCheck d M bytes dayTypes short .number ≡ 0 → sizesValid d M bytes dayTypes ≡ true
 unfolding openingCheck
 valid-passed d M bytes dayTypes short e =
-    by-cases (sizesValid d M bytes dayTypes) (λ t. t) (λ t. let z : _≡_ {A = ℕ} 3 0 = rw t at e in absurd (omega arith))
+    cases (sizesValid d M bytes dayTypes) (λ t. t) (λ t. let z : _≡_ {A = ℕ} 3 0 = rw t at e in absurd (omega arith))
 
-short-passed : (d M : ℕ) (bytes dayTypes : List ℕ) (short : Bool) → openingCheck d M bytes dayTypes short .number ≡ 0 → short ≡ false
-short-passed d M bytes dayTypes short e =
-    let p : (verdict (cond short 1 0)) .number ≡ 0 = or-zero _ _ (or-zero _ _ (rw (opening-next d M bytes dayTypes short (valid-passed d M bytes dayTypes short e)) at e)) in
-    by-cases short (λ t. let z : _≡_ {A = ℕ} 1 0 = rw t at p in absurd (omega arith)) (λ t. t)
+-- what an accepted opening knows: its sizes are in range, and each part is long enough
 
-neither : (a b : Bool) → a || b ≡ false → (a ≡ false) × (b ≡ false)
-neither false b h = (refl, h)
-neither true b h = (h, absurd (true≢false h))
+pub valid-of : (S M R C : List ℕ) (a : Opening) → accepted ≡ answer (openingVerdict S M R C a) accepted → sizesValid (a .duration) (a .meters) (a .categoryBytes) (a .dayTypes) ≡ true
+unfolding openingVerdict
+valid-of S M R C a e = valid-passed _ _ _ _ _ (accepted-none _ e)
 
-pub fitting : (S M R C : List ℕ) (a : OpeningCall) → accepted ≡ answer (openingVerdict S M R C a) accepted → Fitting S M R C a
-unfolding openingVerdict openingShort
-fitting S M R C a e =
-    let z = accepted-none _ e in
-    let p = neither _ _ (short-passed _ _ _ _ _ z) in
-    let q = neither _ _ (p .0) in
-    let r = neither _ _ (q .0) in
-    record {
-      valid = valid-passed _ _ _ _ _ z;
-      settings = ltb-false _ _ (r .0);
-      meters = ltb-false _ _ (r .1);
-      readings = ltb-false _ _ (q .1);
-      cells = ltb-false _ _ (p .1);
-    }
+pub long-of : (S M R C : List ℕ) (a : Opening) → accepted ≡ answer (openingVerdict S M R C a) accepted → open-step.Opened S M R C a
+long-of S M R C a e = open-step.opening-accepted S M R C a (accepted-none _ e)
 
 -- a refused opening leaves each part as it was
-pub opening-refused : (S M R C : List ℕ) (a : OpeningCall) (n p : ℕ) → refused n p ≡ answer (openingVerdict S M R C a) accepted
+pub opening-refused : (S M R C : List ℕ) (a : Opening) (n p : ℕ) → refused n p ≡ answer (openingVerdict S M R C a) accepted
     → Opened S M R C a (refused n p) S M R C
 opening-refused S M R C a n p e =
     let ne = refused-some _ n p e in
@@ -133,7 +75,7 @@ opening-refused S M R C a n p e =
     }
 
 -- an accepted one is written
-pub opening-done : (S M R C : List ℕ) (a : OpeningCall) → accepted ≡ answer (openingVerdict S M R C a) accepted
+pub opening-done : (S M R C : List ℕ) (a : Opening) → accepted ≡ answer (openingVerdict S M R C a) accepted
     → Opened S M R C a accepted (openedSettings a S) (openedMeters a M) (openedReadings a R) (openedCells a C)
 opening-done S M R C a e =
     let z = accepted-none _ e in
@@ -146,29 +88,9 @@ opening-done S M R C a e =
     }
 
 -- what was checked on lengths is the verdict on the parts
-pub verdict-of : (S M R C : List ℕ) (a : OpeningCall)
+pub verdict-of : (S M R C : List ℕ) (a : Opening)
     → openingCheck (a .duration) (a .meters) (a .categoryBytes) (a .dayTypes)
-    (anyShort (length S) (length M) (length R) (length C) (a .duration) (a .meters) (length (a .categoryBytes) / 8) (length (a .dayTypes)))
+    (anyShort a (lengths (length S) (length M) (length R) (length C)))
     ≡ openingVerdict S M R C a
-unfolding openingVerdict openingShort
+unfolding openingVerdict
 verdict-of S M R C a = refl
-
--- the four numbers side by side
-pub header-written : (d M C T : ℕ) (s : List ℕ)
-    → sets (sets (sets (sets s 0 (wordBytes d)) 2 (wordBytes M)) 4 (wordBytes C)) 6 (wordBytes T)
-    ≡ sets s 0 (wordBytes d ++ wordBytes M ++ wordBytes C ++ wordBytes T)
-unfolding wordBytes
-header-written d M C T s = refl
-
--- and the records and day types after them
-pub settings-written : (d M : ℕ) (bytes dayTypes s : List ℕ) → length bytes % 8 ≡ 0 → settingsLength (length bytes / 8) (length dayTypes) ≤ length s
-    → sets (sets (sets s 0 (wordBytes d ++ wordBytes M ++ wordBytes (length bytes / 8) ++ wordBytes (length dayTypes))) 8 bytes) (8 + length bytes) dayTypes
-    ≡ openedSettings (openingCall d M bytes dayTypes) s
-unfolding wordBytes settingsLength openedSettings
-settings-written d M bytes dayTypes s whole long =
-    let w = wordBytes d ++ wordBytes M ++ wordBytes (length bytes / 8) ++ wordBytes (length dayTypes) in
-    let n : length (w ++ bytes) ≡ 8 + length bytes = length-append w bytes in
-    let i : 0 + length (w ++ bytes) ≡ 8 + length bytes = omega arith in
-    let k : 0 + length (w ++ bytes ++ dayTypes) ≡ 8 + 8 * (length bytes / 8) + length dayTypes = omega (arith, n, length-append (w ++ bytes) dayTypes) in
-    rw (sets-append s w bytes 0)
-    (rw i at (sets-append s (w ++ bytes) dayTypes 0) ∙ rw k at (sets-eq (w ++ bytes ++ dayTypes) s 0 (rw k long)))

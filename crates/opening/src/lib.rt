@@ -1,30 +1,22 @@
 // Opening: the sizes, the category records and the day types are checked and kept, and the rest of the store is emptied.
-mod sizes;
-mod writing;
-
-use crate::sizes::cells_length;
-use crate::sizes::meters_length;
-use crate::sizes::readings_length;
-use crate::writing::copy;
-use crate::writing::empty;
-use crate::writing::put_word;
 use metering::calendar;
 use metering::range;
 use store::outcome::Outcome;
+use store::settings::write_settings;
+use store::sizes::cells_length;
+use store::sizes::meters_length;
+use store::sizes::readings_length;
+use store::sizes::settings_length;
+use store::writing::empty;
 ghost use mathlib.Core.Path.{_≡_};
 ghost use mathlib.Core.Bool.{true};
 ghost use Prim.Native.Nat.{_+_, _*_, _/_, _≤_, _<_};
-ghost use mathlib.Core.List.{_++_};
 ghost use lib.ListN.{length};
-ghost use lib.Seq.{sets};
 ghost use Rattle.store.specs.Outcome.{answerOf};
-ghost use Rattle.opening.specs.Opening.{openingCall, anyShort, Opened};
-ghost use Rattle.metering.specs.Calendar.{durationKnown};
-ghost use Rattle.ledger.specs.Sizes.{settingsLength};
-ghost use Rattle.ledger.specs.Store.{wordBytes};
+ghost use Rattle.store.specs.Settings.{openingCall};
+ghost use Rattle.opening.specs.Opening.{lengths, Opened};
 ghost use Rattle.ledger.specs.Checks.{sameKey, anyBelow, categoryNumber, dayTypeNumber, firstFailed, sizesValid, openingCheck};
-ghost use Rattle.ledger.specs.Ledger.{answer, accepted};
-ghost use Rattle.ledger.specs.Calls.{openedSettings};
+ghost use Rattle.ledger.specs.Ledger.{anyShort, answer, accepted};
 
 fn sizes_valid(duration: u64, meter_count: u64, category_records: &[u8], day_types: &[u8]) -> bool
     ensures { λ r. ⌜ r ≡ sizesValid duration «meter_count» (now («category_records» .entry)) (now («day_types» .entry)) ⌝ }
@@ -148,14 +140,16 @@ fn too_short(
     cells: usize,
     duration: u64,
     meter_count: u64,
-    categories: u64,
-    dates: u64,
+    category_records: &[u8],
+    day_types: &[u8],
 ) -> bool
-    requires { ⌜ (durationKnown duration ≡ true) × («meter_count» ≤ 1024) × (categories ≤ 64) × (dates ≤ 800) ⌝ }
-    ensures { λ r. ⌜ r ≡ anyShort settings meters readings cells duration «meter_count» categories dates ⌝ }
+    requires { ⌜ sizesValid duration «meter_count» (now «category_records») (now «day_types») ≡ true ⌝ }
+    ensures { λ r. ⌜ r ≡ anyShort (openingCall duration «meter_count» (now («category_records» .entry)) (now («day_types» .entry))) (lengths settings meters readings cells) ⌝ }
 {
     let periods = calendar::periods_per_day(duration);
-    if (settings as u64) < 8 + 8 * categories + dates {
+    let categories = (category_records.len() / 8) as u64;
+    let dates = day_types.len() as u64;
+    if (settings as u64) < settings_length(categories, dates) {
         return true;
     }
     if (meters as u64) < meters_length(meter_count) {
@@ -178,7 +172,7 @@ fn opening_checked(
     category_records: &[u8],
     day_types: &[u8],
 ) -> Outcome
-    ensures { λ r. ⌜ answerOf r ≡ answer (openingCheck duration «meter_count» (now («category_records» .entry)) (now («day_types» .entry)) (anyShort settings meters readings cells duration «meter_count» (length (now («category_records» .entry)) / 8) (length (now («day_types» .entry))))) accepted ⌝ }
+    ensures { λ r. ⌜ answerOf r ≡ answer (openingCheck duration «meter_count» (now («category_records» .entry)) (now («day_types» .entry)) (anyShort (openingCall duration «meter_count» (now («category_records» .entry)) (now («day_types» .entry))) (lengths settings meters readings cells))) accepted ⌝ }
 {
     if !sizes_valid(duration, meter_count, category_records, day_types) {
         return Outcome::Refused {
@@ -201,8 +195,8 @@ fn opening_checked(
         cells,
         duration,
         meter_count,
-        (category_records.len() / 8) as u64,
-        day_types.len() as u64,
+        category_records,
+        day_types,
     ) {
         return Outcome::Refused {
             number: 1,
@@ -210,39 +204,6 @@ fn opening_checked(
         };
     }
     Outcome::Accepted
-}
-
-// Four numbers of two bytes.
-fn write_header(settings: &mut [u8], duration: u64, meter_count: u64, categories: u64, dates: u64)
-    requires { ⌜ (8 ≤ length (now settings)) × (duration < 65536) × («meter_count» < 65536) × (categories < 65536) × (dates < 65536) ⌝ }
-    ensures { λ r. ⌜ now (settings .exit) ≡ sets (now (settings .entry)) 0 (wordBytes duration ++ wordBytes «meter_count» ++ wordBytes categories ++ wordBytes dates) ⌝ }
-{
-    put_word(settings, 0, duration);
-    put_word(settings, 2, meter_count);
-    put_word(settings, 4, categories);
-    put_word(settings, 6, dates);
-}
-
-fn write_settings(
-    settings: &mut [u8],
-    duration: u64,
-    meter_count: u64,
-    category_records: &[u8],
-    day_types: &[u8],
-)
-    requires { ⌜ sizesValid duration «meter_count» (now «category_records») (now «day_types») ≡ true ⌝ }
-    requires { ⌜ settingsLength (length (now «category_records») / 8) (length (now «day_types»)) ≤ length (now settings) ⌝ }
-    ensures { λ r. ⌜ now (settings .exit) ≡ openedSettings (openingCall duration «meter_count» (now («category_records» .entry)) (now («day_types» .entry))) (now (settings .entry)) ⌝ }
-{
-    write_header(
-        settings,
-        duration,
-        meter_count,
-        (category_records.len() / 8) as u64,
-        day_types.len() as u64,
-    );
-    copy(settings, 8, category_records);
-    copy(settings, 8 + category_records.len(), day_types);
 }
 
 pub fn open(

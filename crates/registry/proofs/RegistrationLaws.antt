@@ -7,9 +7,9 @@ use mathlib.Core.Option.{none, some}
 use native.Mathlib.Omega.{arith}
 use lib.Dec.{leb, ltb, eqb}
 use lib.ListN.{length}
+use borrow.Table.Steps.{cases}
 use borrow.Author.Tests.{lt-ltb, le-ltb, ltb-true, le-leb, lt-leb, leb-false}
 use Rattle.metering.specs.Mpan.{mpanValid}
-use Rattle.metering.specs.Laws.{by-cases}
 use Rattle.ledger.specs.Checks.{RegistrationCall, Verdict, verdict, startOf, registrationInRange, notAfterLast, anyBelow, meterNumber, registrationCheck}
 use Rattle.ledger.specs.Store.{metersOf, datesOf, categoriesOf, periodsOf, mpanAt, slotOf, knownAt, registrationsAt, isHeldAt, putRegistration}
 use Rattle.ledger.specs.Ledger.{accepted, refused, answer, left}
@@ -128,7 +128,7 @@ room false e = refl
 pub used-is : (s m r : List ℕ) (mpan : ℕ) →
     usedOf (registrationsFor s m r mpan) ≡ cond (knownAt (metersOf s) mpan m) (length (registrationsAt (metersOf s) m (slotFor s m r mpan))) 0
 unfolding registrationsFor
-used-is s m r mpan = by-cases (knownAt (metersOf s) mpan m) (λ e. rw e) (λ e. rw e)
+used-is s m r mpan = cases (knownAt (metersOf s) mpan m) (λ e. rw e) (λ e. rw e)
 
 -- where all passed there is a slot, with room for one more
 pub meter-passed : (s m r : List ℕ) (mpan slot start : ℕ) {n : ℕ} → slot ≡ slotFor s m r mpan →
@@ -137,7 +137,7 @@ pub meter-passed : (s m r : List ℕ) (mpan slot start : ℕ) {n : ℕ} → slot
 unfolding meterNumber knownAt slotFor
 meter-passed s m r mpan slot start e n z =
     let h = sym n ∙ z in
-    by-cases (knownAt (metersOf s) mpan m)
+    cases (knownAt (metersOf s) mpan m)
     (λ k. let known = known-is s m r mpan slot start e k in
     let below : slot < metersOf s = rw e (ltb-true _ _ (and-eq-true-iff (ltb (slotOf (metersOf s) mpan m) (metersOf s)) (eqb (mpanAt m (slotOf (metersOf s) mpan m)) mpan) .0 k .0)) in
     let few : length (registrationsAt (metersOf s) m slot) < 8 = leb-false _ _ (fits (notAfterLast start false (registrationsAt (metersOf s) m slot)) (heldFromAt s m r start slot) _ (rw known at h)) in

@@ -3,4 +3,3 @@ mod lent;
 pub mod reception;
 mod record;
 pub mod registration;
-mod set;

@@ -9,8 +9,9 @@ use native.Mathlib.Omega.{arith}
 use lib.Dec.{eqb, leb}
 use lib.ListN.{length, getD, set, take, drop, length-append, length-drop, List·getD-append}
 use lib.Seq.{drop-cons, set-at, getD-at, ext-getD, drop-length, getD-append-add, getD-drop, take-at, drop-at, drop-drop}
+use borrow.Table.Steps.{cases}
 use borrow.Author.Tests.{eqb-true, eqb-false, leb-true}
-use Rattle.metering.specs.Laws.{by-cases, average-le}
+use Rattle.metering.specs.Laws.{average-le}
 use Rattle.metering.specs.Average.{average}
 use Rattle.metering.specs.Sum.{sumBelow, sumBelow-suc, sumBelow-zero}
 use Rattle.ledger.proofs.Lists.{length-tabulate, getD-tabulate, sumBelow-cong, sumBelow-more}
@@ -124,7 +125,7 @@ sumBelow-most (suc n) b f h = rw (suc-mul n b) (add-le-add (sumBelow-most n b f 
 
 pub differenceOf-le : (a b : ℕ) → differenceOf a b ≤ 1
 unfolding differenceOf
-differenceOf-le a b = by-cases (eqb a b) (λ e. rw e (omega arith)) (λ e. rw e (omega arith))
+differenceOf-le a b = cases (eqb a b) (λ e. rw e (omega arith)) (λ e. rw e (omega arith))
 
 pub differing-zero : (f g : ℕ → ℕ) → differing 0 f g ≡ 0
 unfolding differing
@@ -155,14 +156,14 @@ differing-add m n f g = sumBelow-more m n _
 
 differenceOf-zero : (a b : ℕ) → differenceOf a b ≡ 0 → a ≡ b
 unfolding differenceOf
-differenceOf-zero a b z = by-cases (eqb a b) (λ e. eqb-true a b e) (λ e. let one : 1 ≡ 0 = rw e at z in absurd (omega arith))
+differenceOf-zero a b z = cases (eqb a b) (λ e. eqb-true a b e) (λ e. let one : 1 ≡ 0 = rw e at z in absurd (omega arith))
 
 -- where nothing differs, all is equal
 pub differing-none : (n : ℕ) (f g : ℕ → ℕ) → differing n f g ≡ 0 → (k : ℕ) → k < n → f k ≡ g k
 differing-none zero f g h k l = absurd (omega arith)
 differing-none (suc n) f g h k l =
     let s = rw (differing-suc n f g) at h in
-    by-cases (eqb k n)
+    cases (eqb k n)
     (λ e. let is = eqb-true k n e in rw is (differenceOf-zero (f n) (g n) (omega arith)))
     (λ e. let no : k ≡ n → ⊥ = eqb-false k n e in differing-none n f g (omega arith) k (omega arith))
 

@@ -11,8 +11,8 @@ use lib.Dec.{eqb, leb}
 use lib.Arith.{digits-div, digits-mod}
 use lib.ListN.{length, getD, take, drop, take-append-drop, List·getD-append}
 use lib.Seq.{drop-drop, getD-append-add, length-take-le}
+use borrow.Table.Steps.{cases}
 use borrow.Author.Tests.{leb-true, leb-false, eqb-true, eqb-false, eq-eqb, ne-eqb}
-use Rattle.metering.specs.Laws.{by-cases}
 use Rattle.ledger.specs.Method.{Category, wattHours, present, isSmart, sameFamily, freshOf, blank}
 use Rattle.ledger.specs.Checks.{runCheck}
 use Rattle.ledger.specs.Sizes.{cellsLength}
@@ -290,7 +290,7 @@ taken-none n cells last none-found k = rw none-found
 
 pub fresh-is : (a : Category) (x n X K : ℕ) → freshBy (isSmart a) (a .deMinimis) x n X K ≡ freshOf a x n X K
 unfolding freshBy freshOf isEnough
-fresh-is a x n X K = by-cases (isSmart a) (λ e. rw e) (λ e. rw e)
+fresh-is a x n X K = cases (isSmart a) (λ e. rw e) (λ e. rw e)
 
 module _ (s m r : List ℕ) (date : ℕ) (known : Ready s) where
   -- place p of category c
@@ -312,7 +312,7 @@ module _ (s m r : List ℕ) (date : ℕ) (known : Ready s) where
     unfolding tallyBelow readingAt
     times c j =
         sumBelow-times (metersOf s) 4294967295 _ _
-        (λ x l. by-cases (countsFor s m r date c x) (λ e. rw e (reading-bound _ .0)) (λ e. rw e zero-le))
+        (λ x l. cases (countsFor s m r date c x) (λ e. rw e (reading-bound _ .0)) (λ e. rw e zero-le))
 
     pub tallied-bounded : Bounded s sums counts
     tallied-bounded =

@@ -6,6 +6,7 @@ use crate::carry::row_length;
 use crate::carry::take_over;
 use rows::carry_row;
 use store::category::day_type;
+use store::entry::BLANK_ENTRY;
 use store::settings;
 use tally::sums::tally_date;
 use tally::write::write_row;
@@ -126,7 +127,7 @@ fn run_date(settings: &[u8], meters: &[u64], readings: &[u64], cells: &mut [u64]
 {
     let mut sums = [0u64; 6144];
     let mut counts = [0u64; 6144];
-    let mut over = [4294901764u64; 6144];
+    let mut over = [BLANK_ENTRY; 6144];
     run_with(
         settings,
         meters,

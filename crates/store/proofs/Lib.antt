@@ -1,2 +1,3 @@
 -- Laws that the store's proofs share.
 pub mod Laws
+pub mod WritingLaws

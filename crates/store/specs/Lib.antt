@@ -5,3 +5,4 @@ pub mod Cell
 pub mod Entry
 pub mod Meters
 pub mod Outcome
+pub mod Settings

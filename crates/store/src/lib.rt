@@ -8,3 +8,5 @@ pub mod outcome;
 pub mod readings;
 pub mod run_mark;
 pub mod settings;
+pub mod sizes;
+pub mod writing;

@@ -1,12 +1,24 @@
 // The settings part: duration, M, C and T, the category records and the day types.
 use crate::access::byte_at;
+use crate::sizes::cells_length;
+use crate::sizes::meters_length;
+use crate::sizes::readings_length;
+use crate::sizes::settings_length;
+use crate::writing::copy;
+use crate::writing::put_word;
 use metering::calendar;
 use metering::range;
 ghost use mathlib.Core.Path.{_≡_};
+ghost use mathlib.Core.List.{_++_};
 ghost use mathlib.Core.Bool.{true};
-ghost use Prim.Native.Nat.{_+_, _*_, _<_, _≤_};
+ghost use Prim.Native.Nat.{_+_, _*_, _/_, _<_, _≤_};
 ghost use lib.ListN.{length};
-ghost use Rattle.ledger.specs.Store.{word, durationOf, metersOf, categoriesOf, datesOf, periodsOf, isOpened, settingsReady, metersReady, readingsReady, cellsReady};
+ghost use lib.Seq.{sets};
+ghost use Rattle.ledger.specs.Sizes.{settingsLength};
+ghost use Rattle.ledger.specs.Checks.{sizesValid};
+ghost use Rattle.ledger.specs.Calls.{openedSettings};
+ghost use Rattle.store.specs.Settings.{openingCall};
+ghost use Rattle.ledger.specs.Store.{word, wordBytes, durationOf, metersOf, categoriesOf, datesOf, periodsOf, isOpened, settingsReady, metersReady, readingsReady, cellsReady};
 
 fn word(settings: &[u8], k: u64) -> u64
     requires { ⌜ 2 * k + 1 < length (now settings) ⌝ }
@@ -70,7 +82,7 @@ pub fn settings_ready(settings: &[u8]) -> bool
     if !opened(settings) {
         return false;
     }
-    8 + 8 * category_count(settings) + date_count(settings) <= length
+    settings_length(category_count(settings), date_count(settings)) <= length
 }
 
 pub fn period_count(settings: &[u8]) -> u64
@@ -84,22 +96,63 @@ pub fn meters_ready(settings: &[u8], meters: &[u64]) -> bool
     requires { ⌜ settingsReady (now settings) ≡ true ⌝ }
     ensures { λ r. ⌜ r ≡ metersReady (now (settings .entry)) (now (meters .entry)) ⌝ }
 {
-    let meters_kept = meter_count(settings);
-    meters_kept + 40 * meters_kept <= meters.len() as u64
+    meters_length(meter_count(settings)) <= meters.len() as u64
 }
 
 pub fn readings_ready(settings: &[u8], readings: &[u64]) -> bool
     requires { ⌜ settingsReady (now settings) ≡ true ⌝ }
     ensures { λ r. ⌜ r ≡ readingsReady (now (settings .entry)) (now (readings .entry)) ⌝ }
 {
-    let sets = date_count(settings) * meter_count(settings);
-    sets * (1 + period_count(settings)) <= readings.len() as u64
+    let least = readings_length(
+        meter_count(settings),
+        date_count(settings),
+        period_count(settings),
+    );
+    least <= readings.len() as u64
 }
 
 pub fn cells_ready(settings: &[u8], cells: &[u64]) -> bool
     requires { ⌜ settingsReady (now settings) ≡ true ⌝ }
     ensures { λ r. ⌜ r ≡ cellsReady (now (settings .entry)) (now (cells .entry)) ⌝ }
 {
-    let row = category_count(settings) * period_count(settings);
-    date_count(settings) * row <= cells.len() as u64
+    let least = cells_length(
+        category_count(settings),
+        date_count(settings),
+        period_count(settings),
+    );
+    least <= cells.len() as u64
+}
+
+// Four numbers of two bytes.
+fn write_header(settings: &mut [u8], duration: u64, meter_count: u64, categories: u64, dates: u64)
+    requires { ⌜ (8 ≤ length (now settings)) × (duration < 65536) × («meter_count» < 65536) × (categories < 65536) × (dates < 65536) ⌝ }
+    ensures { λ r. ⌜ now (settings .exit) ≡ sets (now (settings .entry)) 0 (wordBytes duration ++ wordBytes «meter_count» ++ wordBytes categories ++ wordBytes dates) ⌝ }
+{
+    put_word(settings, 0, duration);
+    put_word(settings, 2, meter_count);
+    put_word(settings, 4, categories);
+    put_word(settings, 6, dates);
+}
+
+// The opening's sizes, category records and day types.
+pub fn write_settings(
+    settings: &mut [u8],
+    duration: u64,
+    meter_count: u64,
+    category_records: &[u8],
+    day_types: &[u8],
+)
+    requires { ⌜ sizesValid duration «meter_count» (now «category_records») (now «day_types») ≡ true ⌝ }
+    requires { ⌜ settingsLength (length (now «category_records») / 8) (length (now «day_types»)) ≤ length (now settings) ⌝ }
+    ensures { λ r. ⌜ now (settings .exit) ≡ openedSettings (openingCall duration «meter_count» (now («category_records» .entry)) (now («day_types» .entry))) (now (settings .entry)) ⌝ }
+{
+    write_header(
+        settings,
+        duration,
+        meter_count,
+        (category_records.len() / 8) as u64,
+        day_types.len() as u64,
+    );
+    copy(settings, 8, category_records);
+    copy(settings, 8 + category_records.len(), day_types);
 }

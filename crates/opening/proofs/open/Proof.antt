@@ -3,16 +3,20 @@ use Rattle.ledger.specs.Calls.{openedMeters, openedReadings, openedCells}
 use mathlib.Core.Path.{_≡_, sym, ap, _∙_}
 use denote.Ref.{now}
 use Rattle.metering.specs.Laws.{duration-pos, periodsPerDay-bounds}
-use Rattle.ledger.specs.Ledger.{answer, accepted}
-use Rattle.ledger.specs.Calls.{OpeningCall, openingVerdict}
+use Rattle.ledger.specs.Ledger.{answer, accepted, Opening}
+use Rattle.ledger.specs.Calls.{openingVerdict}
 use Rattle.store.specs.Outcome.{answerOf}
-use Rattle.opening.specs.Opening.{openingCall}
-use Rattle.opening.proofs.Laws.{Sized, sized, Fitting, fitting, opening-refused, opening-done, verdict-of}
+use Rattle.store.specs.Settings.{openingCall}
+use Rattle.store.proofs.WritingLaws.{Sized, sized}
+use Rattle.ledger.specs.Checks.{sizesValid}
+use Rattle.ledger.proofs.Open.{Opened}
+use mathlib.Core.Bool.{true}
+use Rattle.opening.proofs.Laws.{valid-of, long-of, opening-refused, opening-done, verdict-of}
 use borrow.Author.Needs.{needs}
 use Rattle.opening.proofs.open.Statement.{statement}
 use Rattle.opening.proofs.open.Tie as tie
 
-abbrev call : tie.After-enum-told → OpeningCall
+abbrev call : tie.After-enum-told → Opening
 call c =
     let a = c .before .before .before .before .before .before .before .before .before .args in
     openingCall (a .duration) (a .meter-count) (now (a .category-records)) (now (a .day-types))
@@ -24,12 +28,15 @@ told c =
     rw (← verdict-of (now (a .settings)) (now (a .meters)) (now (a .readings)) (now (a .cells)) (call c))
     (sym (ap answerOf (c .enum-told .given .1)) ∙ c .before .before .opening-checked .ensures)
 
-fit : (c : tie.After-enum-told) → let a = c .before .before .before .before .before .before .before .before .before .args in
-    Fitting (now (a .settings)) (now (a .meters)) (now (a .readings)) (now (a .cells)) (call c)
-fit c = fitting _ _ _ _ _ (told c)
+valid : (c : tie.After-enum-told) → sizesValid (call c .duration) (call c .meters) (call c .categoryBytes) (call c .dayTypes) ≡ true
+valid c = valid-of _ _ _ _ _ (told c)
+
+long : (c : tie.After-enum-told) → let a = c .before .before .before .before .before .before .before .before .before .args in
+    Opened (now (a .settings)) (now (a .meters)) (now (a .readings)) (now (a .cells)) (call c)
+long c = long-of _ _ _ _ _ (told c)
 
 sizes : (c : tie.After-enum-told) → Sized (call c .duration) (call c .meters) (call c .categoryBytes) (call c .dayTypes)
-sizes c = sized _ _ _ _ (fit c .valid)
+sizes c = sized _ _ _ _ (valid c)
 
 opening-checked-requires : tie.Need-opening-checked-requires
 opening-checked-requires c κs = search needs
@@ -50,13 +57,13 @@ periods-per-day-requires : tie.Need-periods-per-day-requires
 periods-per-day-requires c κs = duration-pos _ (sizes c .known)
 
 write-settings-requires : tie.Need-write-settings-requires
-write-settings-requires c κs = let t = fit (c .before .before) in (t .valid, t .settings)
+write-settings-requires c κs = (valid (c .before .before), long (c .before .before) .settings-long)
 
 meters-length-requires : tie.Need-meters-length-requires
 meters-length-requires c κs = sizes (c .before .before .before .before .before .before) .meters
 
 empty-requires : tie.Need-empty-requires
-empty-requires c κs = rw (c .meters-length .ensures) (fit (c .before .before .before .before .before .before .before) .meters)
+empty-requires c κs = rw (c .meters-length .ensures) (long (c .before .before .before .before .before .before .before) .meters-long)
 
 readings-length-requires : tie.Need-readings-length-requires
 readings-length-requires c κs = let p = c .before .before .before .before .before .before .before .before .before .before in
@@ -65,7 +72,7 @@ readings-length-requires c κs = let p = c .before .before .before .before .befo
 
 empty-requires-2 : tie.Need-empty-requires-2
 empty-requires-2 c κs = let p = c .before .before .before .before .before .before .before .before .before .before .before in
-    rw (c .readings-length .ensures, p .periods-per-day .ensures) (fit (p .before) .readings)
+    rw (c .readings-length .ensures, p .periods-per-day .ensures) (long (p .before) .readings-long)
 
 cells-length-requires : tie.Need-cells-length-requires
 cells-length-requires c κs = let p = c .before .before .before .before .before .before .before .before .before .before .before .before .before .before .before in
@@ -74,7 +81,7 @@ cells-length-requires c κs = let p = c .before .before .before .before .before 
 
 empty-requires-3 : tie.Need-empty-requires-3
 empty-requires-3 c κs = let p = c .before .before .before .before .before .before .before .before .before .before .before .before .before .before .before .before in
-    rw (c .cells-length .ensures, p .periods-per-day .ensures) (fit (p .before) .cells)
+    rw (c .cells-length .ensures, p .periods-per-day .ensures) (long (p .before) .cells-long)
 
 same-length : tie.Need-same-length
 same-length c = search needs

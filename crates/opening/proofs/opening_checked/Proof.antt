@@ -2,7 +2,7 @@
 use mathlib.Core.Path.{sym, ap, _∙_}
 use borrow.Author.Tests.{not-true, not-false}
 use Rattle.store.specs.Outcome.{answerOf}
-use Rattle.opening.proofs.Laws.{sized, sizes-refused, category-refused, day-type-refused, short-refused, opening-accepted}
+use Rattle.opening.proofs.Laws.{sizes-refused, category-refused, day-type-refused, short-refused, opening-accepted}
 use borrow.Author.Needs.{needs}
 use Rattle.opening.proofs.opening_checked.Statement.{statement}
 use Rattle.opening.proofs.opening_checked.Tie as tie
@@ -47,8 +47,7 @@ enum-told-2 c = search needs
 
 too-short-requires : tie.Need-too-short-requires
 too-short-requires c κs = let s = c .before .before .before .before .before .before in
-    let z = sized _ _ _ _ (sym (s .before .sizes-valid .ensures) ∙ not-false _ (s .if1 .left)) in
-    (z .known, z .meters, z .categories, z .dates)
+    sym (s .before .sizes-valid .ensures) ∙ not-false _ (s .if1 .left)
 
 returns-4 : tie.Need-returns-4
 returns-4 c = let t = c .before .before in

@@ -54,7 +54,7 @@ loop-again c =
     let inv = c .before .before .before .before .before .before .before .before .before .before .before .before .before .before .before .before .before .before .before .before .before .before .before .before .before .before .before .before .loop .inv in
     let done = c .before .before .before .before .before .before .before .before .before .before .before .before .before .before .before .before .turn in (
       rw (inv .2) at (done .ensures .0),
-      rw (inv .3, inv .4, inv .5) at (done .ensures .1),
+      rw (inv .3, inv .4, inv .5) at (done .ensures .1 .0),
       omega (arith, done .kept),
       omega (arith, done .kept),
       omega (arith, done .kept),

@@ -1,5 +1,5 @@
 use Prim.Native.Nat.{ℕ, _-_, _≤_}
-use mathlib.Core.Path.{_≡_}
+use mathlib.Core.Path.{_≡_, refl, sym, _∙_}
 use mathlib.Core.Bool.{false}
 use mathlib.Core.List.{List}
 use native.Mathlib.Omega.{arith}
@@ -119,12 +119,13 @@ same-length-8 c = search needs
 returns : tie.Need-returns
 returns c =
     let f = c .before .before .before .before .before .before .before .before .before .before .before .before .before .before .before .before .before .before .before .before .before .before .before .before .before in
-    let obeyed = c .before .before .before .before .before .before .before .before .before .before .before .before .before .before .obey .ensures in (
+    let obeyed = c .before .before .before .before .before .before .before .before .before .before .before .before .before .before .obey .ensures in
+    let extent = sym (f .before .before .command-extent .ensures .0) ∙ f .found .given .1 in (
       record {
-        begun = omega (arith, obeyed .1, within f, start f .pre .0 .begun);
-        block = omega (arith, obeyed .1, start f .pre .0 .block);
+        begun = omega (arith, obeyed .1 .0, within f, start f .pre .0 .begun);
+        block = omega (arith, obeyed .1 .0, start f .pre .0 .block);
       },
-      obeyed .0,
+      (obeyed .0, rw extent (obeyed .1 .0 .0, obeyed .1 .1 .0, obeyed .1 .1 .1)),
     )
 
 same-length-9 : tie.Need-same-length-9
@@ -136,14 +137,18 @@ same-length-10 c = search needs
 returns-2 : tie.Need-returns-2
 returns-2 c =
     let held = c .before .before .before .before .before .before .before .before .before .before .before .before .before .before .before .before .before .before .before .before .before .before .pre .1 in
-    let filled = c .before .before .before .before .refill .ensures in (
+    let filled = c .before .before .before .before .refill .ensures in
+    let extent = sym (c .before .before .before .before .before .before .before .before .before .command-extent .ensures .0) ∙ c .before .before .before .before .before .before .before .enum-told .given .1 in (
       filled .0 .0,
-      record {
-        line = held .line;
-        waiting = filled .0 .1;
-        categories = omega (arith, filled .1, held .categories);
-        dayTypes = omega (arith, filled .1, held .dayTypes);
-      },
+      (
+        record {
+          line = held .line;
+          waiting = filled .0 .1;
+          categories = omega (arith, filled .1, held .categories);
+          dayTypes = omega (arith, filled .1, held .dayTypes);
+        },
+        rw (extent, filled .1 .0, filled .1 .1),
+      ),
     )
 
 same-length-11 : tie.Need-same-length-11
@@ -153,7 +158,17 @@ same-length-12 : tie.Need-same-length-12
 same-length-12 c = search needs
 
 returns-3 : tie.Need-returns-3
-returns-3 c = search needs
+returns-3 c =
+    let s = c .before .before .before .before .before .before .before .before .before .before .before .before .before .before .before .before .before .before .before in
+    let held = s .pre .1 in
+    let put = c .before .before .append-bad .ensures in
+    let extent = sym (c .before .before .before .before .before .before .command-extent .ensures .0) ∙ c .before .before .before .before .enum-told2 .given .1 in (
+      record { begun = s .pre .0 .begun; block = s .pre .0 .block },
+      (
+        record { line = held .line; waiting = put .0; categories = held .categories; dayTypes = held .dayTypes },
+        rw extent (refl, refl, put .1),
+      ),
+    )
 
 pub turn-spec : {M : Type 1} → statement M
 turn-spec =

@@ -1,7 +1,6 @@
 -- `meters_ready` meets its contract.
 use native.Mathlib.Omega.{arith}
 use Rattle.ledger.specs.Ready.{ready}
-use Rattle.ledger.specs.Sizes.{metersLength}
 use Rattle.ledger.specs.Store.{metersReady}
 use Rattle.store.proofs.settings.meters_ready.Statement.{statement}
 use Rattle.store.proofs.settings.meters_ready.Tie as tie
@@ -9,15 +8,12 @@ use Rattle.store.proofs.settings.meters_ready.Tie as tie
 meter-count-requires : tie.Need-meter-count-requires
 meter-count-requires c κs = let k = ready _ (c .before .before .pre) in omega arith
 
-mul-result : tie.Need-mul-result
-mul-result c = let k = ready _ (c .before .before .before .pre) in omega arith
-
-add-result : tie.Need-add-result
-add-result c = let k = ready _ (c .before .before .before .pre) in omega arith
+meters-length-requires : tie.Need-meters-length-requires
+meters-length-requires c κs = let k = ready _ (c .before .before .before .pre) in omega arith
 
 returns : tie.Need-returns
-unfolding metersReady metersLength
-returns c = rw (c .meter-count .ensures)
+unfolding metersReady
+returns c = rw (c .meters-length .ensures, c .before .meter-count .ensures)
 
 pub meters-ready-spec : {M : Type 1} → statement M
-meters-ready-spec = tie.close (tie.spec meter-count-requires mul-result add-result returns)
+meters-ready-spec = tie.close (tie.spec meter-count-requires meters-length-requires returns)

@@ -3,7 +3,6 @@ use borrow.Author.Needs.{needs}
 use native.Mathlib.Omega.{arith}
 use mathlib.Core.Path.{sym}
 use Rattle.ledger.specs.Store.{settingsReady}
-use Rattle.ledger.specs.Sizes.{settingsLength}
 use Rattle.metering.specs.Laws.{failed, passed}
 use Rattle.store.proofs.Laws.{opened-bounds, short-unready}
 use Rattle.store.proofs.settings.settings_ready.Statement.{statement}
@@ -22,23 +21,21 @@ returns-2 c = rw (failed (c .before .opened .ensures) (c .if2 .taken))
 category-count-requires : tie.Need-category-count-requires
 category-count-requires c κs = search needs
 
-mul-result : tie.Need-mul-result
-mul-result c = let b = opened-bounds _ (passed (c .before .before .opened .ensures) (c .before .if2 .left)) in omega arith
-
-add-result : tie.Need-add-result
-add-result c = let b = opened-bounds _ (passed (c .before .before .opened .ensures) (c .before .if2 .left)) in omega arith
-
 date-count-requires : tie.Need-date-count-requires
 date-count-requires c κs = search needs
 
-add-result-2 : tie.Need-add-result-2
-add-result-2 c = let b = opened-bounds _ (passed (c .before .before .before .opened .ensures) (c .before .before .if2 .left)) in omega arith
+settings-length-requires : tie.Need-settings-length-requires
+settings-length-requires c κs = let b = opened-bounds _ (passed (c .before .before .before .opened .ensures) (c .before .before .if2 .left)) in omega arith
 
 returns-3 : tie.Need-returns-3
-unfolding settingsReady settingsLength
+unfolding settingsReady
 returns-3 c =
-    let c2 = c .before .before in
-    rw (passed (c2 .before .opened .ensures) (c2 .if2 .left), c .date-count .ensures, c .before .category-count .ensures)
+    rw (
+      passed (c .before .before .before .before .opened .ensures) (c .before .before .before .if2 .left),
+      c .settings-length .ensures,
+      c .before .date-count .ensures,
+      c .before .before .category-count .ensures,
+    )
 
 pub settings-ready-spec : {M : Type 1} → statement M
 settings-ready-spec =
@@ -48,8 +45,6 @@ settings-ready-spec =
     opened-requires
     returns-2
     category-count-requires
-    mul-result
-    add-result
     date-count-requires
-    add-result-2
+    settings-length-requires
     returns-3)

@@ -1,10 +1,10 @@
--- `opening::write_settings` meets its contract. Assumes nothing.
+-- `settings::write_settings` meets its contract. Assumes nothing.
 use native.Mathlib.Omega.{arith}
 use Rattle.ledger.specs.Sizes.{settingsLength}
-use Rattle.opening.proofs.Laws.{sized, settings-written}
+use Rattle.store.proofs.WritingLaws.{sized, settings-written}
 use borrow.Author.Needs.{needs}
-use Rattle.opening.proofs.write_settings.Statement.{statement}
-use Rattle.opening.proofs.write_settings.Tie as tie
+use Rattle.store.proofs.settings.write_settings.Statement.{statement}
+use Rattle.store.proofs.settings.write_settings.Tie as tie
 
 write-header-requires : tie.Need-write-header-requires
 unfolding settingsLength

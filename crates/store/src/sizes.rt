@@ -1,7 +1,14 @@
-// The least lengths of the parts that an opening empties.
+// The least length of each part.
 ghost use mathlib.Core.Path.{_≡_};
 ghost use Prim.Native.Nat.{_≤_};
-ghost use Rattle.ledger.specs.Sizes.{metersLength, readingsLength, cellsLength};
+ghost use Rattle.ledger.specs.Sizes.{settingsLength, metersLength, readingsLength, cellsLength};
+
+pub fn settings_length(categories: u64, dates: u64) -> u64
+    requires { ⌜ (categories ≤ 64) × (dates ≤ 800) ⌝ }
+    ensures { λ r. ⌜ r ≡ settingsLength categories dates ⌝ }
+{
+    8 + 8 * categories + dates
+}
 
 pub fn meters_length(meters: u64) -> u64
     requires { ⌜ meters ≤ 1024 ⌝ }

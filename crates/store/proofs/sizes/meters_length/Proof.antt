@@ -1,9 +1,9 @@
--- `opening::sizes::meters_length` meets its contract. Assumes nothing.
+-- `sizes::meters_length` meets its contract. Assumes nothing.
 use mathlib.Core.Path.{refl}
 use Rattle.ledger.specs.Sizes.{metersLength}
 use borrow.Author.Needs.{needs}
-use Rattle.opening.proofs.sizes.meters_length.Statement.{statement}
-use Rattle.opening.proofs.sizes.meters_length.Tie as tie
+use Rattle.store.proofs.sizes.meters_length.Statement.{statement}
+use Rattle.store.proofs.sizes.meters_length.Tie as tie
 
 mul-result : tie.Need-mul-result
 mul-result c = search needs

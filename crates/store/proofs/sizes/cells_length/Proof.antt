@@ -1,11 +1,11 @@
 use Prim.Native.Nat.{_*_}
--- `opening::sizes::cells_length` meets its contract: the products are far below 2 ^ 64. Assumes nothing.
+-- `sizes::cells_length` meets its contract: the products are far below 2 ^ 64. Assumes nothing.
 use mathlib.Core.Path.{refl}
 use native.Mathlib.Omega.{arith}
 use native.Mathlib.Nat.{mul-le-mul}
 use Rattle.ledger.specs.Sizes.{cellsLength}
-use Rattle.opening.proofs.sizes.cells_length.Statement.{statement}
-use Rattle.opening.proofs.sizes.cells_length.Tie as tie
+use Rattle.store.proofs.sizes.cells_length.Statement.{statement}
+use Rattle.store.proofs.sizes.cells_length.Tie as tie
 
 mul-result : tie.Need-mul-result
 mul-result c = let a = c .args in omega (arith, mul-le-mul {n₁ = a .categories} {m₁ = a .periods} {n₂ = 64} {m₂ = 96} (c .pre .0) (c .pre .2))

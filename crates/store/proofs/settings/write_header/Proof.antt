@@ -1,8 +1,8 @@
--- `opening::write_header` meets its contract. Assumes nothing.
-use Rattle.opening.proofs.Laws.{header-written}
+-- `settings::write_header` meets its contract. Assumes nothing.
+use Rattle.store.proofs.WritingLaws.{header-written}
 use borrow.Author.Needs.{needs}
-use Rattle.opening.proofs.write_header.Statement.{statement}
-use Rattle.opening.proofs.write_header.Tie as tie
+use Rattle.store.proofs.settings.write_header.Statement.{statement}
+use Rattle.store.proofs.settings.write_header.Tie as tie
 
 put-word-requires : tie.Need-put-word-requires
 put-word-requires c κs = search needs

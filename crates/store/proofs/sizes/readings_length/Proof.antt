@@ -1,12 +1,12 @@
 use Prim.Native.Nat.{_+_, _*_}
--- `opening::sizes::readings_length` meets its contract: the products are far below 2 ^ 64. Assumes nothing.
+-- `sizes::readings_length` meets its contract: the products are far below 2 ^ 64. Assumes nothing.
 use mathlib.Core.Path.{refl}
 use native.Mathlib.Omega.{arith}
 use native.Mathlib.Nat.{mul-le-mul}
 use Rattle.ledger.specs.Sizes.{readingsLength}
 use borrow.Author.Needs.{needs}
-use Rattle.opening.proofs.sizes.readings_length.Statement.{statement}
-use Rattle.opening.proofs.sizes.readings_length.Tie as tie
+use Rattle.store.proofs.sizes.readings_length.Statement.{statement}
+use Rattle.store.proofs.sizes.readings_length.Tie as tie
 
 mul-result : tie.Need-mul-result
 mul-result c = let a = c .args in omega (arith, mul-le-mul {n₁ = a .dates} {m₁ = a .meters} {n₂ = 800} {m₂ = 1024} (c .pre .1) (c .pre .0))
