@@ -97,9 +97,14 @@ def describe(data, expected, heard):
     return '\n'.join(lines)
 
 
+def length_of(seed, commands):
+    """Some streams are long, so that commands lie across the blocks that a program reads."""
+    return 25 * commands if seed % 200 == 0 else commands
+
+
 def compare(program, profile, commands, seed):
     begin = time.process_time()
-    data = stream(seed, profile, commands)
+    data = stream(seed, profile, length_of(seed, commands))
     expected = answers(data, PROFILES[profile])
     text = ''.join(answer.line + '\n' for answer in expected).encode()
     ours = time.process_time() - begin
@@ -151,7 +156,8 @@ def main():
             if result.difference:
                 print(f'stream with seed {result.seed} differs: {result.difference}')
                 print(f'to have the stream: python3 streams.py --seed {result.seed} '
-                      f'--profile {options.profile} --commands {options.commands}')
+                      f'--profile {options.profile} '
+                      f'--commands {length_of(result.seed, options.commands)}')
                 return 1
             answered += result.answered
             ours += result.ours
