@@ -3,15 +3,16 @@
     python3 fixed_streams.py DIRECTORY
 
 Writes NAME/stdin and NAME/stdout into DIRECTORY for shaper (the paper's worked
-example), shaper_late_day, shaper_refusals and shaper_wide. The answers are the
-plain ledger's.
+example), shaper_late_day, shaper_refusals, shaper_wide and netting_test, which
+writes the nets of its store behind the answers. Answers and nets are the plain
+ledger's.
 """
 
 import pathlib
 import sys
 
-from program import PROFILES, run as answer
-from streams import command, valid_mpan
+from program import PROFILES, Limits, Program
+from streams import TOP, command, valid_mpan
 from worked_example import INPUT
 
 FIRST, SECOND, THIRD, FOURTH, FIFTH = (valid_mpan(first) for first in
@@ -120,18 +121,95 @@ def wide():
     return hands + year
 
 
-PROGRAMS = {'shaper': (INPUT, 'small'), 'shaper_late_day': (late_day(), 'small'),
-            'shaper_refusals': (refusals(), 'small'), 'shaper_wide': (wide(), 'wide')}
+# Nets. Domestic with connection W has import of groups A, B, C and export of A, B, D, where B needs
+# two readings. Not domestic with L has one of each, domestic with H no export. Then what belongs to
+# none of these families: Advanced, and an export that is not domestic.
+NET_CATEGORIES = [(1, 1, 1, 1, 1, 1, 0, 1), (1, 1, 1, 2, 1, 2, 0, 0),
+                  (1, 2, 1, 1, 1, 0, 0, 2), (1, 2, 1, 2, 1, 0, 0, 2),
+                  (1, 3, 1, 1, 1, 0, 0, 1), (1, 4, 1, 2, 1, 1, 0, 1),
+                  (1, 1, 2, 1, 2, 0, 0, 1), (1, 1, 2, 2, 2, 1, 0, 1), (1, 1, 1, 1, 3, 0, 0, 1),
+                  (2, 0, 0, 1, 1, 0, 0, 1), (2, 0, 0, 2, 1, 0, 0, 1), (1, 1, 2, 2, 1, 0, 0, 1)]
+NET_TYPES = (1, 1, 2, 1, 2, 3, 3, 3, 1, 1, 2, 1)
+NOT_RUN = (8, 11)
+
+# date -> category -> period -> Wh
+NET_READINGS = {
+    # Of categories 0 and 1, periods 1 to 3 and 10 have both, 4 import alone, 5 export alone, 6
+    # none, 7 both by their families. In period 3 the second form too has all its cells.
+    0: {0: {1: 400, 2: 100, 3: 70, 4: 50, 8: TOP, 10: 0, 48: 5},
+        1: {1: 150, 2: 350, 3: 70, 5: 60, 9: TOP, 10: 0, 48: 11},
+        2: {1: 200, 8: TOP, 11: 30}, 3: {2: 10, 9: TOP},
+        4: {3: 40, 7: 90, 8: TOP}, 5: {3: 5, 5: 20, 7: 33, 9: TOP, 12: 45},
+        6: {1: 10, 2: TOP, 3: 8}, 7: {1: 25, 2: 1, 3: 8}, 8: {1: 1000, 6: 1},
+        9: {1: 2000, 6: 2}, 10: {1: 3000, 6: 3}, 11: {1: 5000, 6: 4}},
+    # Few readings, so most cells are copies; date 2, the first of its type, has none at all.
+    1: {0: {1: 410}, 1: {2: 20}, 7: {1: 2}},
+    3: {1: {1: 900, 8: TOP}, 3: {1: 100}},
+    4: {0: {1: 27, 2: 9}, 1: {1: 3}, 6: {1: 4}, 7: {1: 4}},
+    # A day of the largest values: import alone, export against copies of it, export alone.
+    5: {0: dict.fromkeys(range(1, 49), TOP)},
+    6: {1: dict.fromkeys(range(1, 49), TOP)},
+    7: {0: dict.fromkeys(range(1, 49), 0)},
+    8: {0: {1: 12345}},                    # held, but the date is not run
+    9: {0: {1: 500}, 5: {30: 600}},
+    10: {4: {20: 77}}}
+
+
+def net_store():
+    """Each case of a net, over twelve dates of which one in the middle and the last are not run."""
+    meters = [valid_mpan(number) for number in range(1, len(NET_CATEGORIES) + 1)]
+    store = open_store(NET_CATEGORIES, NET_TYPES, meters=len(meters))
+    store += b''.join(register(mpan, category=number, limit=TOP)
+                      for number, mpan in enumerate(meters))
+    for date, sets in NET_READINGS.items():
+        for number, readings in sets.items():
+            store += receive(meters[number], date, [(30 * j, 1, wh) for j, wh in readings.items()],
+                             quantity=NET_CATEGORIES[number][3])
+    return store + b''.join(run(date) for date in range(len(NET_TYPES)) if date not in NOT_RUN)
+
+
+def net_lines(ledger):
+    """All nets, dates and categories one past the last too, then lists of other lengths."""
+    dates, categories = range(ledger.dates + 1), range(len(ledger.categories) + 1)
+    lines = [net_line(ledger, date, category, all_groups)
+             for all_groups in (False, True) for date in dates for category in categories]
+    lines += [net_line(ledger, 0, 0, False, 48, 48), net_line(ledger, 0, 0, True, 48, 48),
+              net_line(ledger, 0, 0, False, 47, 48), net_line(ledger, 0, 0, True, 48, 47),
+              net_line(ledger, dates[-1], categories[-1], False, 47, 47)]
+    return lines + ['net 0 0 0 no 1 0 kept']   # the cells without their last entry
+
+
+def net_line(ledger, date, category, all_groups, numbers=50, marks=50):
+    """The lists have 50 entries, -7 and 9 at first, of which so many are lent."""
+    answer = ledger.net(date, category, all_groups, numbers, marks)
+    if answer[0] == 'ok':
+        ok, tot, tot7, nets, blanks = answer
+        kept = 50 - ledger.periods
+        answer = ok, tot, tot7, *nets, *[-7] * kept, *blanks, *[9] * kept
+    else:
+        answer = *answer, 'kept'
+    return ' '.join(map(str, ('net', date, category, int(all_groups), *answer)))
+
+
+PROGRAMS = {'shaper': (INPUT, PROFILES['small']),
+            'shaper_late_day': (late_day(), PROFILES['small']),
+            'shaper_refusals': (refusals(), PROFILES['small']),
+            'shaper_wide': (wide(), PROFILES['wide']),
+            'netting_test': (net_store(), Limits(12, 12, 12 * 48, 12))}
 
 
 def main():
     if len(sys.argv) != 2:
         sys.exit(__doc__)
-    for name, (stream, profile) in PROGRAMS.items():
+    for name, (stream, limits) in PROGRAMS.items():
+        program = Program(stream, limits)
+        lines = [answer.line for answer in program.answers()]
+        if name == 'netting_test':
+            lines += net_lines(program.ledger)
         folder = pathlib.Path(sys.argv[1]) / name
         folder.mkdir(parents=True, exist_ok=True)
         (folder / 'stdin').write_bytes(stream)
-        (folder / 'stdout').write_text(answer(stream, PROFILES[profile]))
+        (folder / 'stdout').write_text(''.join(line + '\n' for line in lines))
 
 
 if __name__ == '__main__':

@@ -5,10 +5,12 @@
 First hand-made inputs for the forms of commands. Then a second, slower
 calculation: each cell straight from the list of accepted calls by the rules in
 the order the paper gives them, moved by comparing every cell of every date,
-totals by minutes and fractions. Then known slips: the ledger's text is changed
-in one place, and some stream must hear the difference.
+totals by minutes and fractions, nets by adding each cell with its sign. Then
+known slips: the ledger's text is changed in one place, and some stream, or for
+nets some random store, must hear the difference.
 """
 
+import random
 import sys
 from fractions import Fraction
 from functools import lru_cache
@@ -18,7 +20,8 @@ from types import ModuleType
 
 import ledger
 import program
-from streams import stream
+from streams import stream, valid_mpan
+from worked_example import reading
 
 
 class Doubled(ledger.Ledger):
@@ -139,6 +142,31 @@ class Doubled(ledger.Ledger):
         Doubled.checked += 1
         return answer
 
+    def net(self, date, category, all_groups, *lengths):
+        answer = super().net(date, category, all_groups, *lengths)
+        if answer[0] != 'ok':
+            return answer
+        # Alike in segment, domestic and connection, and but for the second form in group.
+        alike = (0, 2, 4) if all_groups else (0, 1, 2, 4)
+        signs = {number: {1: 1, 2: -1}[other.quantity]
+                 for number, other in enumerate(self.categories)
+                 if all(other[field] == self.categories[category][field] for field in alike)}
+        tot7, nets, marks = 0, [0] * self.periods, [0] * self.periods
+        for (d, number, period), (flag, value, *rest) in self.all_cells(len(self.calls)).items():
+            if number not in signs or not date - 7 < d <= date:
+                continue
+            tot7 += signs[number] * value  # a date not run is blank and adds 0
+            if d == date:
+                nets[period - 1] += signs[number] * value
+                marks[period - 1] |= flag == 'N'
+        assert answer[1:] == (sum(nets), tot7, nets, marks)
+        Doubled.checked += 1
+        return answer
+
+
+def doubled(plain):
+    return Doubled(plain.duration, plain.meters, plain.categories, plain.day_types)
+
 
 def half_up(fraction):
     return floor(fraction + Fraction(1, 2))
@@ -154,8 +182,7 @@ class Doubling(program.Program):
     def open(self, *operands):
         answer = super().open(*operands)
         if answer == ('ok',):
-            plain = self.ledger
-            self.ledger = Doubled(plain.duration, plain.meters, plain.categories, plain.day_types)
+            self.ledger = doubled(self.ledger)
         return answer
 
     def ask(self, call, *operands):        # by name, so that the doubled call is taken
@@ -164,9 +191,42 @@ class Doubling(program.Program):
         return getattr(self.ledger, call.__name__)(*operands)
 
 
-def check_twice(streams, commands):
+# Import and export of two groups, import of a third and export of a fourth; then what is in other
+# families: not domestic, another connection, Advanced.
+NET_KEYS = [(1, 1, 1, 1, 1), (1, 1, 1, 2, 1), (1, 2, 1, 1, 1), (1, 2, 1, 2, 1), (1, 3, 1, 1, 1),
+            (1, 4, 1, 2, 1), (1, 1, 2, 1, 1), (1, 1, 2, 2, 1), (1, 1, 1, 1, 2), (1, 1, 1, 2, 2),
+            (2, 0, 0, 1, 1), (2, 0, 0, 2, 1)]
+
+
+def net_answers(opening, seed):
+    """All nets of a small random store, of the date and category past the last too."""
+    rng = random.Random(seed)
+    categories = [(*key, rng.randrange(3) if key[0] == 1 else 0, 0, rng.choice((0, 1, 1, 2)))
+                  for key in rng.sample(NET_KEYS, 6)]
+    dates = 9
+    store = opening(30, 6, b''.join(map(bytes, categories)),
+                    [rng.choice((1, 1, 2)) for _ in range(dates)])
+    for number, category in enumerate(categories):
+        mpan = valid_mpan(number + 1)
+        store.registration(mpan, 0, 0, number, 7, 1, 1000)
+        for date in rng.sample(range(dates), 3):
+            body = b''.join(reading(30 * period, rng.randrange(1000), rng.choice((1, 1, 8)))
+                            for period in rng.sample((1, 2, 3, 47, 48), 3))
+            store.reception(7, mpan, date, 30, category[3], body)
+    for date in rng.sample(range(dates), dates - 2):
+        store.run(date)
+    lengths = rng.choice(((47, 48), (48, 47)))
+    return [store.net(date, category, all_groups, *given)
+            for given in ((48, 48), lengths)
+            for date in range(dates + 1) for category in range(len(categories) + 1)
+            for all_groups in (False, True)]
+
+
+def check_twice(streams, commands, stores):
     for seed in range(streams):
         list(Doubling(stream(seed, 'small', commands), program.PROFILES['small']).answers())
+    for seed in range(stores):
+        net_answers(lambda *given: doubled(ledger.opening(*given)), seed)
     return Doubled.checked
 
 
@@ -267,7 +327,34 @@ SLIPS = [
      "len(wh) >= least and not (flag == 'D' and number in own and period in own[number]):"),
     ('carries N as E', "cell.flag in 'EN'", "cell.flag in 'E'"),
     ('gives PEAK without a window', 'if window else 0', ''),
-    ('counts seven run dates, not calendar dates', 'run_dates(7)', 'run_dates(365)[-7:]'),
+    ('counts seven run dates, not calendar dates', 'week, year = self.run_dates(date, 7)',
+     'week, year = self.run_dates(date, 365)[-7:]'),
+]
+
+# The same for nets.
+NET_SLIPS = [
+    ('adds the export', '- sum(rows', '+ sum(rows'),
+    ('lets Advanced in', 'category.family == family', 'category.family in (None, family)'),
+    ('lets the other domestic in', 'category.family == family',
+     'category.family and category.family[1:] == family[1:]'),
+    ('lets other connections in', 'category.family == family',
+     'category.family and category.family[:2] == family[:2]'),
+    ('keeps to the group in the second form', 'all_groups or category.group', 'category.group'),
+    ('wants the own partner in the second form', 'or not exports',
+     'or not self.side(asked, EXPORT, False)'),
+    ('nets an export category', ' or asked.quantity != IMPORT', ''),
+    ('marks the import side only', 'in imports + exports', 'in imports'),
+    ('marks the export side only', 'in imports + exports', 'in exports'),
+    ('marks where the net is 0',
+     "[any(self.cells[date][c][j].flag == 'N' for c in imports + exports)", '[nets[j] == 0'),
+    ('marks copies', "[j].flag == 'N'", "[j].flag in 'EN'"),
+    ('marks where all are blank', '[any(self', '[all(self'),
+    ('sums six dates', 'in self.run_dates(date, 7)]', 'in self.run_dates(date, 6)]'),
+    ('sums eight dates', 'in self.run_dates(date, 7)]', 'in self.run_dates(date, 8)]'),
+    ('sums seven run dates', 'in self.run_dates(date, 7)]', 'in self.run_dates(date, 365)[-7:]]'),
+    ('finds a date not run before a partner that is absent', 'asked = self.categories[category]\n',
+     'asked = self.categories[category]\n        if date not in self.pictures: return no(14)\n'),
+    ('finds no fault with short marks', 'numbers < self.periods or marks', 'numbers'),
 ]
 
 
@@ -287,27 +374,34 @@ def changed_program(old, new):
     return modules['program']
 
 
-def main():
-    for given, output in FORMS:
-        heard = program.run(bytes.fromhex(given))
-        assert heard == ''.join(line + '\n' for line in output.split('|') if line), (given, heard)
-    print(len(FORMS), 'hand-made inputs answered as they must be')
-    print(check_twice(20, 80), 'answers worked out twice and alike')
-    most = 200
-    streams = [stream(seed) for seed in range(most)]
-    expected = [None] * most
-    for name, old, new in SLIPS:
+def heard_each(slips, kind, answers):
+    """Whether each slip changes the answers to one of the first inputs of the kind."""
+    most, expected = 200, {}
+    for name, old, new in slips:
         slipping = changed_program(old, new)
         for seed in range(most):
-            if expected[seed] is None:
-                expected[seed] = program.run(streams[seed])
-            if slipping.run(streams[seed]) != expected[seed]:
-                print(f'{name}: heard in stream {seed + 1}')
+            if seed not in expected:
+                expected[seed] = answers(program, seed)
+            if answers(slipping, seed) != expected[seed]:
+                print(f'{name}: heard in {kind} {seed + 1}')
                 break
         else:
-            print(f'{name}: not heard in {most} streams')
-            return 1
-    return 0
+            print(f'{name}: not heard in {most} {kind}s')
+            return False
+    return True
+
+
+def main():
+    for form, output in FORMS:
+        heard = program.run(bytes.fromhex(form))
+        assert heard == ''.join(line + '\n' for line in output.split('|') if line), (form, heard)
+    print(len(FORMS), 'hand-made inputs answered as they must be')
+    print(check_twice(20, 80, 5), 'answers worked out twice and alike')
+    given = lru_cache(None)(stream)
+    heard = (heard_each(SLIPS, 'stream', lambda program, seed: program.run(given(seed)))
+             and heard_each(NET_SLIPS, 'store',
+                            lambda program, seed: net_answers(program.opening, seed)))
+    return 0 if heard else 1
 
 
 if __name__ == '__main__':

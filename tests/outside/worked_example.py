@@ -1,4 +1,4 @@
-"""The paper's worked example and its marked list, on the plain ledger.
+"""The paper's worked example, its marked list and a net worked by hand, on the plain ledger.
 
     python3 worked_example.py
 """
@@ -79,7 +79,44 @@ def marked_list():
     assert ledger.totals(2, 0) == ('ok', 0, 0, 0, 1000, 0, 0, 3, 121667, 3, 0, 48)
 
 
+def net_of_panels():
+    """Import and export of groups A and B; the export of B needs two readings and has no shape."""
+    categories = [(1, group, 1, quantity, 1, 0, 0, least)
+                  for group, quantity, least in ((1, 1, 1), (1, 2, 1), (2, 1, 1), (2, 2, 2))]
+    ledger = store(*categories, dates=2)
+    for mpan, category, values in ((1000000000003, 0, (400, 100, 50)),
+                                   (1010000000000, 1, (150, 350)), (10, 2, (200,))):
+        quantity = categories[category][3]
+        body = b''.join(reading(30 * period, wh) for period, wh in enumerate(values, 1))
+        assert ledger.registration(mpan, 0, 0, category, 7, 1, 2 ** 32 - 1) == ('ok',)
+        assert ledger.reception(7, mpan, 0, 30, quantity, body) == ('ok',)
+    assert ledger.run(0) == ('ok', 8)
+    assert ([ledger.cell(0, 2, period)[1:3] for period in range(1, 5)]
+            == [('A', 200), ('D', 100), ('D', 50), ('N', 0)])
+    assert all(ledger.cell(0, 3, period)[1] == 'N' for period in range(1, 49))
+
+    def net(date, category, all_groups):
+        return ledger.net(date, category, all_groups, 48, 48)
+
+    def day(nets, marked_from):
+        """The nets and marks of a day: nets, then 0; unmarked, then marked from this period on."""
+        return nets + [0] * (48 - len(nets)), [0] * (marked_from - 1) + [1] * (49 - marked_from)
+
+    assert net(0, 0, False) == ('ok', 50, 50, *day([250, -250, 50], 3))
+    assert net(0, 2, False) == ('ok', 350, 350, *day([200, 100, 50], 1))
+    for category in (0, 2):
+        assert net(0, category, True) == ('ok', 400, 400, *day([450, -150, 100], 1))
+    # Date 1 is not run; what there is no net of is 26 all the same, and a short list is 1.
+    assert net(1, 1, False) == net(1, 1, True) == ('no', 26, 0)
+    assert net(1, 0, False) == net(1, 0, True) == ('no', 14, 0)
+    assert ledger.net(2, 4, False, 47, 48) == ledger.net(2, 4, True, 48, 47) == ('no', 1, 0)
+    # Its run copies date 0, and copies are not marked.
+    assert ledger.run(1) == ('ok', 8)
+    assert net(1, 0, False) == ('ok', 50, 100, *day([250, -250, 50], 3))
+
+
 if __name__ == '__main__':
     assert run(INPUT) == OUTPUT
     marked_list()
-    print('worked example and marked list agree')
+    net_of_panels()
+    print('worked example, marked list and net agree')

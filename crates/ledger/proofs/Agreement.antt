@@ -1,7 +1,7 @@
 -- Agreement with the plain ledger: every call keeps the relation and answers alike, so every list of calls does.
 use Prim.Native.Nat.{ℕ, zero, suc, _+_, _*_, _≤_, _<_}
 use mathlib.Core.Path.{_≡_, refl, sym, ap, ap₂, _∙_}
-use mathlib.Core.Bool.{Bool, true, false, not, and-eq-true-iff}
+use mathlib.Core.Bool.{Bool, true, false, not, _||_, and-eq-true-iff}
 use mathlib.Core.List.{List, [], _∷_, _++_}
 use mathlib.Core.Option.{Option}
 use native.Mathlib.Omega.{arith}
@@ -13,11 +13,11 @@ use borrow.Author.Tests.{eqb-true, leb-false, ltb-true, ltb-false}
 use Rattle.metering.specs.Laws.{between-true}
 use Rattle.metering.specs.Range.{between}
 use Rattle.ledger.specs.Method.{Picture}
-use Rattle.ledger.specs.Checks.{RegistrationCall, ReceptionCall, Verdict, verdict, registrationCheck, receptionCheck, runCheck, readCheck, totalsInRange, cellInRange}
+use Rattle.ledger.specs.Checks.{RegistrationCall, ReceptionCall, Verdict, verdict, registrationCheck, receptionCheck, runCheck, readCheck, totalsInRange, cellInRange, NetCall, resultsShort, mayNet, netCheck}
 use Rattle.ledger.specs.Sizes.{settingsLength, metersLength, readingsLength, cellsLength}
-use Rattle.ledger.specs.Ledger.{Opening, categories, dates, periods, Meter, Ledger, start, Call, register, receive, run, readTotals, readCell, Answer, moved, totalsAre, cellIs, answer, left, Lengths, settingsShort, metersShort, cellsShort, anyShort, ledgerRegistrationCheck, afterRegistration, ledgerReceptionCheck, afterReception, cellAt, isRun, ledgerRunCheck, afterRun, movedBetween, ledgerTotalsCheck, ledgerCellCheck, totalsAt, ledgerAnswer, ledgerAfter}
+use Rattle.ledger.specs.Ledger.{Opening, categories, dates, periods, Meter, category, Ledger, start, Call, register, receive, run, readTotals, readCell, readNet, Answer, moved, totalsAre, cellIs, netIs, answer, left, Lengths, settingsShort, metersShort, cellsShort, anyShort, ledgerRegistrationCheck, afterRegistration, ledgerReceptionCheck, afterReception, cellAt, isRun, ledgerRunCheck, afterRun, movedBetween, ledgerTotalsCheck, ledgerCellCheck, totalsAt, ledgerNetCheck, netAt, ledgerAnswer, ledgerAfter}
 use Rattle.ledger.specs.Store.{rowOf, datesOf, categoriesOf, periodsOf, isRunAt}
-use Rattle.ledger.specs.Calls.{metersUnready, runUnready, cellsUnready, openingVerdict, openedMeters, openedReadings, openedCells, registrationVerdict, registeredMeters, receptionVerdict, receivedReadings, rowAt, runVerdict, ranFrom, totalsVerdict, totalsFor, cellVerdict, cellFor}
+use Rattle.ledger.specs.Calls.{metersUnready, runUnready, cellsUnready, openingVerdict, openedMeters, openedReadings, openedCells, registrationVerdict, registeredMeters, receptionVerdict, receivedReadings, rowAt, runVerdict, ranFrom, totalsVerdict, totalsFor, cellVerdict, cellFor, netVerdict, netFor}
 use Rattle.ledger.specs.Engine.{Parts, callAnswer, metersAfter, readingsAfter, cellsAfter, Item, cut, partsAfter, answersFrom, storeAnswers, cutLengths, ledgerAnswers, Every, lengthsOf, openedParts, AreBytes, BodyOfBytes, BodiesOfBytes, Agreement}
 use Rattle.ledger.proofs.Choices.{passed, passed-verdict, not-false, neither}
 use Rattle.ledger.proofs.Lists.{getD-cut, getD-back, block-below}
@@ -30,7 +30,7 @@ use Rattle.ledger.proofs.Register as register-step
 use Rattle.ledger.proofs.Receive as receive-step
 use Rattle.ledger.proofs.Receive.{held-stands, not-held-stands, sets-alike}
 use Rattle.ledger.proofs.Open as open-step
-use Rattle.ledger.proofs.Answers.{run-is, cell-is, totals-are}
+use Rattle.ledger.proofs.Answers.{run-is, cell-is, totals-are, may-net-is, net-is}
 
 -- ---- parts alike below their least lengths
 
@@ -487,12 +487,61 @@ module _ (p : Parts) (l : Ledger) (agrees : Agrees (lengthsOf p) p l) (n : Lengt
           let w = within (suc k) (ok .2) in
           cell-is l (cut n p .settings) (cut n p .cells) (enough .0) (enough .1) (agrees .sound) d c k (ok .1) (w .0) (w .2) (ok .3)
 
+  -- the first failed check of a net read; 26 looks at a category that there is
+  net-verdict : (a : NetCall) → netVerdict (cut n p .settings) (cut n p .cells) a ≡ ledgerNetCheck l (lengthsOf (cut n p)) a
+  unfolding netVerdict ledgerNetCheck netCheck
+  net-verdict a =
+      rw read-short
+      (cases (cellsShort (l .opening) (lengthsOf (cut n p)))
+      (λ q. rw q)
+      (λ q.
+      let e = enough-cells q in
+      let lists : resultsShort (periodsOf (cut n p .settings)) (a .numbers) (a .marks) ≡ resultsShort (periods (l .opening)) (a .numbers) (a .marks) = (unfold periodsOf in rw (e .0 .duration)) in
+      rw (q, lists, e .0 .dates-are, e .0 .categories-are)
+      (cases (leb (dates (l .opening)) (a .date))
+      (λ w. rw w)
+      (λ w.
+      rw (w, run-is l (cut n p .settings) (cut n p .cells) (e .0) (e .1) (agrees .sound) (a .date) (leb-false (dates (l .opening)) (a .date) w))
+      (cases (totalsInRange (categories (l .opening)) (a .category))
+      (λ v. rw (v, may-net-is l (cut n p .settings) (cut n p .cells) (e .0) (e .1) (agrees .sound) (a .allGroups) (a .category) (ltb-true (a .category) (categories (l .opening)) (unfold totalsInRange in v))))
+      (λ v. rw v))))))
+
+  net-ok : (a : NetCall) → ledgerNetCheck l (lengthsOf (cut n p)) a .number ≡ 0 →
+      (cellsShort (l .opening) (lengthsOf (cut n p)) ≡ false) × (a .date < dates (l .opening)) × (a .category < categories (l .opening)) × (isRun l (a .date) ≡ true)
+  unfolding ledgerNetCheck netCheck totalsInRange
+  net-ok a e =
+      let p1 = passed (cellsShort (l .opening) (lengthsOf (cut n p)) || resultsShort (periods (l .opening)) (a .numbers) (a .marks)) 0 _ e in
+      let p9 = passed (leb (dates (l .opening)) (a .date)) 8 _ (p1 .1) in
+      let p15 = passed (not (ltb (a .category) (categories (l .opening)))) 14 _ (p9 .1) in
+      let p26 = passed (not (mayNet (category (l .opening)) (categories (l .opening)) (a .allGroups) (a .category))) 25 _ (p15 .1) in
+      let p14 = passed (not (isRun l (a .date))) 13 0 (p26 .1) in (
+        neither _ (resultsShort (periods (l .opening)) (a .numbers) (a .marks)) (p1 .0) .0,
+        leb-false (dates (l .opening)) (a .date) (p9 .0),
+        ltb-true (a .category) (categories (l .opening)) (not-false _ (p15 .0)),
+        not-false (isRun l (a .date)) (p14 .0),
+      )
+
+  net-step : (a : NetCall) → Step (readNet a)
+  unfolding callAnswer ledgerAnswer ledgerAfter metersAfter readingsAfter cellsAfter
+  net-step a =
+      record {
+        answers = rw (net-verdict a) (same-answer (ledgerNetCheck l (lengthsOf (cut n p)) a) _ _ (λ e. ap netIs (value (net-ok a e))));
+        leaves = rw (same-parts (readNet a) refl refl refl) agrees;
+      }
+    where
+      value : (cellsShort (l .opening) (lengthsOf (cut n p)) ≡ false) × (a .date < dates (l .opening)) × (a .category < categories (l .opening)) × (isRun l (a .date) ≡ true) →
+          netFor (cut n p .settings) (cut n p .cells) a ≡ netAt l a
+      value ok =
+          let enough = enough-cells (ok .0) in
+          net-is l (cut n p .settings) (cut n p .cells) (enough .0) (enough .1) (agrees .sound) a (ok .1) (ok .2) (ok .3)
+
   step : (c : Call) → BodyOfBytes c → Step c
   step (register a) b = registration-step a
   step (receive a) b = reception-step a b
   step (run d) b = run-step d
   step (readTotals d c) b = totals-step d c
   step (readCell d c j) b = cell-step d c j
+  step (readNet a) b = net-step a
 
 -- ---- every list of calls
 

@@ -10,10 +10,14 @@ use borrow.Table.Steps.{cases}
 use Rattle.metering.specs.Average.{annual}
 use Rattle.metering.specs.Calendar.{liesWithin, windowStart, windowEnd}
 use Rattle.ledger.specs.Method.{Cell, isFresh, isBlank, overRunDates, totOn, offOn, peakOn, totalsOn}
-use Rattle.ledger.specs.Ledger.{categories, dates, periods, category, dayType, Ledger, cellAt, isPicture, isRun, totalsAt}
-use Rattle.ledger.specs.Store.{periodsOf, rowOf, cellIndex, cellOfEntry, isRunAt}
-use Rattle.ledger.specs.Calls.{rowAt, cellFor, totalsFor}
+use Rattle.ledger.specs.Net.{activeImport, activeExport, onSide, sideOf}
+use Rattle.ledger.specs.Checks.{NetCall, mayNet}
+use Rattle.ledger.specs.Ledger.{categories, dates, periods, category, dayType, Ledger, cellAt, isPicture, isRun, totalsAt, sideAt, netAt}
+use Rattle.ledger.specs.Store.{periodsOf, rowOf, categoryOf, cellIndex, cellOfEntry, isRunAt}
+use Rattle.ledger.specs.Calls.{rowAt, cellFor, totalsFor, sideFor, netFor}
+use Rattle.ledger.specs.Engine.{Every}
 use Rattle.ledger.proofs.Lists.{sumBelow-cong, block-below}
+use Rattle.ledger.proofs.Nets.{chosen-cong, chosen-below, net-cong}
 use Rattle.ledger.proofs.Entries.{cell-entry}
 use Rattle.ledger.proofs.Columns.{cell-small}
 use Rattle.ledger.proofs.Rows.{columnCell, run-at}
@@ -114,3 +118,36 @@ module _ (l : Ledger) (s cells : List ℕ) (agree : SettingsAgree (l .opening) s
       (λ x h. run-is x (omega arith))
       (λ x k h q m. cell-is x c k (omega arith) hc m (sym (run-is x (omega arith)) ∙ q))
       (run-is d hd ∙ r))
+
+  -- the settings have the opening's categories, so the same ones stand on each side of a net
+  side-same : (allGroups : Bool) (quantity c : ℕ) → c < categories (l .opening) →
+      sideOf (categoryOf s) (categories (l .opening)) allGroups quantity c ≡ sideOf (category (l .opening)) (categories (l .opening)) allGroups quantity c
+  unfolding sideOf
+  side-same allGroups quantity c hc =
+      rw (agree .records c hc)
+      (chosen-cong (categories (l .opening)) _ _ (λ b h. ap (onSide allGroups quantity (category (l .opening) c)) (agree .records b h)))
+
+  side-is : (allGroups : Bool) (quantity c : ℕ) → c < categories (l .opening) → sideFor s allGroups quantity c ≡ sideAt l allGroups quantity c
+  unfolding sideFor sideAt
+  side-is allGroups quantity c hc = rw (agree .categories-are) (side-same allGroups quantity c hc)
+
+  pub may-net-is : (allGroups : Bool) (c : ℕ) → c < categories (l .opening) →
+      mayNet (categoryOf s) (categories (l .opening)) allGroups c ≡ mayNet (category (l .opening)) (categories (l .opening)) allGroups c
+  unfolding mayNet
+  may-net-is allGroups c hc = rw (side-same allGroups activeExport c hc, agree .records c hc)
+
+  side-low : (allGroups : Bool) (quantity c : ℕ) → Every (λ b. b < categories (l .opening)) (sideAt l allGroups quantity c)
+  unfolding sideAt sideOf
+  side-low allGroups quantity c = chosen-below (categories (l .opening)) _
+
+  pub net-is : (a : NetCall) → a .date < dates (l .opening) → a .category < categories (l .opening) → isRun l (a .date) ≡ true → netFor s cells a ≡ netAt l a
+  unfolding netFor netAt periodsOf
+  net-is a hd hc r =
+      rw (agree .duration, side-is (a .allGroups) activeImport (a .category) hc, side-is (a .allGroups) activeExport (a .category) hc)
+      (net-cong (periods (l .opening)) (isRunAt (rowOf s) cells) (isRun l) (cellFor s cells) (cellAt l) (categories (l .opening))
+      (sideAt l (a .allGroups) activeImport (a .category)) (sideAt l (a .allGroups) activeExport (a .category))
+      (side-low (a .allGroups) activeImport (a .category)) (side-low (a .allGroups) activeExport (a .category))
+      (a .date)
+      (λ x h. run-is x (omega arith))
+      (λ x c k h m q n. cell-is x c k (omega arith) m n (sym (run-is x (omega arith)) ∙ q))
+      (run-is (a .date) hd ∙ r))

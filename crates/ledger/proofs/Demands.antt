@@ -190,7 +190,7 @@ copies-have-origins l d c j e =
 
 -- ---- reception, exactly
 
-any-false : (n : ℕ) (f : ℕ → Bool) → anyBelow n f ≡ false → (k : ℕ) → k < n → f k ≡ false
+pub any-false : (n : ℕ) (f : ℕ → Bool) → anyBelow n f ≡ false → (k : ℕ) → k < n → f k ≡ false
 unfolding anyBelow
 any-false zero f e k h = absurd (omega arith)
 any-false (suc n) f e k h =

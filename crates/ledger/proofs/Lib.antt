@@ -14,6 +14,8 @@ pub mod Settings
 pub mod Register
 pub mod Receive
 pub mod Open
+pub mod Nets
 pub mod Answers
 pub mod Agreement
 pub mod Demands
+pub mod NetDemands

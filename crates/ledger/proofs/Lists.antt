@@ -3,17 +3,17 @@ use Prim.Native.Nat.{ℕ, zero, suc, _+_, _*_, _/_, _≤_, _<_}
 use mathlib.Core.Path.{_≡_, refl, sym, ap, _∙_}
 use mathlib.Core.Logic.{_≢_, ⊎-elim}
 use mathlib.Core.Bool.{cond}
-use mathlib.Core.List.{List, [], _∷_, _++_}
+use mathlib.Core.List.{List, [], _∷_, _++_, append-assoc}
 use native.Mathlib.Omega.{arith}
 use native.Mathlib.Numerals.{add-one}
 use native.Mathlib.Nat.{zero-add, add-zero, add-suc, suc-add, suc-mul, zero-mul, eq-or-lt-of-le, le-of-suc-le-suc, not-suc-le-zero, mul-le-mul-right}
-use lib.ListN.{length, getD, take, drop, set, length-append, List·getD-append, length-set}
-use lib.Seq.{sets, getD-set-same, getD-set-other, getD-append-add, getD-take, take-suc, length-take-le}
+use lib.ListN.{length, getD, take, drop, set, length-append, length-drop, List·getD-append, length-set}
+use lib.Seq.{sets, set-at, drop-cons, getD-set-same, getD-set-other, getD-at, getD-take, take-suc, length-take-le}
 use lib.Arith.{digits-div}
 use lib.Dec.{eqb}
 use borrow.Author.Tests.{eq-eqb, ne-eqb}
 use Rattle.metering.specs.Sum.{sumBelow, sumBelow-suc}
-use Rattle.ledger.specs.Table.{tabulate}
+use Rattle.ledger.specs.Table.{tabulate, filling}
 
 -- what holds below n and at n holds below suc n
 pub below-suc : (P : ℕ → Type 0) (n : ℕ) → ((k : ℕ) → k < n → P k) → P n → (k : ℕ) → k < suc n → P k
@@ -50,24 +50,59 @@ getD-sets-at (v ∷ vs) l at (suc j) h k =
 
 -- ---- a list made from a function
 
-pub length-tabulate : (n : ℕ) (f : ℕ → ℕ) → length (tabulate n f) ≡ n
+module _ {A : Type 0} where
+  pub length-tabulate : (n : ℕ) (f : ℕ → A) → length (tabulate n f) ≡ n
+  unfolding tabulate
+  length-tabulate zero f = refl
+  length-tabulate (suc n) f = length-append (tabulate n f) (f n ∷ []) ∙ rw (length-tabulate n f) (add-one n)
+
+  pub tabulate-suc : (n : ℕ) (f : ℕ → A) → tabulate (suc n) f ≡ tabulate n f ++ (f n ∷ [])
+  unfolding tabulate
+  tabulate-suc n f = refl
+
+  pub tabulate-ext : (n : ℕ) (f g : ℕ → A) → ((k : ℕ) → k < n → f k ≡ g k) → tabulate n f ≡ tabulate n g
+  unfolding tabulate
+  tabulate-ext zero f g h = refl
+  tabulate-ext (suc n) f g h = rw (tabulate-ext n f g (λ k l. h k (omega arith)), h n (omega arith))
+
+  -- while a list is filled
+
+  pub filling-zero : (f : ℕ → A) (xs : List A) → filling 0 f xs ≡ xs
+  unfolding filling tabulate
+  filling-zero f xs = refl
+
+  pub filling-length : (f : ℕ → A) (xs : List A) (k : ℕ) → k ≤ length xs → length (filling k f xs) ≡ length xs
+  unfolding filling
+  filling-length f xs k h = rw (length-append, length-tabulate, length-drop) (omega arith)
+
+  pub filling-next : (f : ℕ → A) (xs : List A) (k : ℕ) → k < length xs → set (filling k f xs) k (f k) ≡ filling (suc k) f xs
+  unfolding filling
+  filling-next f xs k h =
+      rw (drop-cons xs k (f k) h, tabulate-suc k f)
+      (set-at (tabulate k f) (getD xs k (f k)) (drop (suc k) xs) (f k) k (length-tabulate k f)
+      ∙ sym (append-assoc (tabulate k f) (f k ∷ []) (drop (suc k) xs)))
+
+  -- a loop's turn: the next place is set to f's value
+  pub fill : (f : ℕ → A) (xs ys : List A) (k : ℕ) (v : A) → ys ≡ filling k f xs → k < length xs → v ≡ f k → set ys k v ≡ filling (k + 1) f xs
+  fill f xs ys k v so low is = rw (so, is, add-one k) (filling-next f xs k low)
+
+  pub filled-long : (f : ℕ → A) (xs ys : List A) (k : ℕ) → ys ≡ filling k f xs → k ≤ length xs → length ys ≡ length xs
+  filled-long f xs ys k so low = ap length so ∙ filling-length f xs k low
+
+  pub filled : (f : ℕ → A) (xs ys : List A) (k n : ℕ) → ys ≡ filling k f xs → k ≡ n → ys ≡ filling n f xs
+  filled f xs ys k n so is = so ∙ ap (λ (m : ℕ). filling m f xs) is
+
+pub tabulate-at : {A : Type 0} (n : ℕ) (f : ℕ → A) (d : A) (k : ℕ) → k < n → getD (tabulate n f) k d ≡ f k
 unfolding tabulate
-length-tabulate zero f = refl
-length-tabulate (suc n) f = length-append (tabulate n f) (f n ∷ []) ∙ rw (length-tabulate n f) (add-one n)
+tabulate-at zero f d k h = absurd (not-suc-le-zero h)
+tabulate-at (suc n) f d k h =
+    ⊎-elim
+    (λ (e : k ≡ n). rw e (getD-at (tabulate n f) (f n) [] d n (length-tabulate n f)))
+    (λ (l : k < n). List·getD-append (tabulate n f) (f n ∷ []) d k (rw length-tabulate l) ∙ tabulate-at n f d k l)
+    (eq-or-lt-of-le (le-of-suc-le-suc h))
 
 pub getD-tabulate : (n : ℕ) (f : ℕ → ℕ) (k : ℕ) → k < n → getD (tabulate n f) k 0 ≡ f k
-unfolding tabulate
-getD-tabulate zero f k h = absurd (not-suc-le-zero h)
-getD-tabulate (suc n) f k h =
-    ⊎-elim
-    (λ (e : k ≡ n). rw e (getD-at-end n))
-    (λ (l : k < n). List·getD-append (tabulate n f) (f n ∷ []) 0 k (rw length-tabulate l) ∙ getD-tabulate n f k l)
-    (eq-or-lt-of-le (le-of-suc-le-suc h))
-  where
-    getD-at-end : (m : ℕ) → getD (tabulate m f ++ (f m ∷ [])) m 0 ≡ f m
-    getD-at-end m =
-        ap (λ (x : ℕ). getD (tabulate m f ++ (f m ∷ [])) x 0) (sym (add-zero m) ∙ ap (λ (x : ℕ). x + 0) (sym (length-tabulate m f)))
-        ∙ getD-append-add (tabulate m f) (f m ∷ []) 0 0
+getD-tabulate n f k h = tabulate-at n f 0 k h
 
 -- ---- sums
 

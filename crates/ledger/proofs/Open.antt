@@ -27,7 +27,7 @@ use Rattle.ledger.proofs.Receive.{set-below}
 
 -- ---- what an accepted opening tells
 
-passed-else : (a b : Verdict) → orElse a b .number ≡ 0 → (a .number ≡ 0) × (b .number ≡ 0)
+pub passed-else : (a b : Verdict) → orElse a b .number ≡ 0 → (a .number ≡ 0) × (b .number ≡ 0)
 unfolding orElse
 passed-else a b e =
     cases (eqb (a .number) 0)

@@ -1,16 +1,20 @@
 -- What is promised, in the scope paper's words. The proofs are in proofs/Demands.antt and proofs/Agreement.antt.
-use Prim.Native.Nat.{ℕ, _*_, _/_, _%_, _≤_, _<_}
+use Prim.Native.Nat.{ℕ, suc, _*_, _/_, _%_, _≤_, _<_}
 use mathlib.Core.Path.{_≡_}
 use mathlib.Core.Logic.{_≢_, _↔_, _⊎_}
-use mathlib.Core.Bool.{true, false}
-use mathlib.Core.List.{List}
+use mathlib.Core.Bool.{Bool, true, false, cond}
+use mathlib.Core.List.{List, [], _∷_, _++_, map}
 use mathlib.Core.Option.{some}
-use lib.ListN.{length}
+use lib.ListN.{length, getD}
+use lib.IntN.{ℤ, pos, negℤ, _+ℤ_, _-ℤ_}
 use Rattle.metering.specs.Mpan.{mpanValid}
 use Rattle.metering.specs.Calendar.{durationKnown}
-use Rattle.ledger.specs.Method.{freshIn, A, D, E, cellFrom, latest}
-use Rattle.ledger.specs.Checks.{Registration, ReceptionCall, endMinute, quality, wattHoursAt}
-use Rattle.ledger.specs.Ledger.{Opening, categories, dates, periods, category, dayType, Ledger, receive, run, readTotals, readCell, refused, accepted, moved, Lengths, metersShort, anyShort, meterWith, currentOf, cellAt, dayOf, isRun, pictureOf, afterRun, ledgerAnswer}
+use Rattle.metering.specs.Sum.{sumBelow}
+use Rattle.ledger.specs.Method.{Category, freshIn, A, D, E, N, Cell, cellFrom, latest}
+use Rattle.ledger.specs.Net.{activeImport, activeExport, onSide, sumOver, netOn}
+use Rattle.ledger.specs.Checks.{Registration, ReceptionCall, endMinute, quality, wattHoursAt, openingCheck, NetCall, mayNet}
+use Rattle.ledger.specs.Ledger.{Opening, categories, dates, periods, category, dayType, Ledger, receive, run, readTotals, readCell, refused, accepted, moved, Lengths, metersShort, anyShort, meterWith, currentOf, cellAt, dayOf, isRun, pictureOf, afterRun, totalsAt, sideAt, netAt, ledgerAnswer}
+use Rattle.ledger.specs.Engine.{Every}
 
 -- ---- Demand 2, reception: a meter day is accepted exactly when the conditions hold
 
@@ -76,3 +80,74 @@ CopiesHaveOrigins =
     × (cellAt l (cellAt l d c j .origin) c j .value ≡ cellAt l d c j .value)
     × (cellAt l (cellAt l d c j .origin) c j .count ≡ cellAt l d c j .count)
     × (cellAt l d c j .origin < d)
+
+-- ---- Net reads (change request 2026-13)
+
+-- what it takes to stand on a side of a net: Smart, of the side's quantity, alike in domestic and connection, and in group unless all groups are pooled
+pub record OnSide (allGroups : Bool) (quantity : ℕ) (a b : Category) : Type 0 where
+  pub smart : (a .segment ≡ 1) × (b .segment ≡ 1)
+  pub same-quantity : b .quantity ≡ quantity
+  pub same-domestic : b .domestic ≡ a .domestic
+  pub same-connection : b .connection ≡ a .connection
+  pub same-group : allGroups ≡ false → b .group ≡ a .group
+
+-- a side has exactly these categories, each once: a sum over it is one over all categories in which the others count nothing
+abbrev pub SideExact : Type 0
+SideExact =
+    (l : Ledger) (allGroups : Bool) (quantity c : ℕ) →
+    ((f : ℕ → ℕ) → sumOver (sideAt l allGroups quantity c) f
+    ≡ sumBelow (categories (l .opening)) (λ b. cond (onSide allGroups quantity (category (l .opening) c) (category (l .opening) b)) (f b) 0))
+    × ((a b : Category) → (onSide allGroups quantity a b ≡ true) ↔ OnSide allGroups quantity a b)
+
+-- in the first form a category that may be netted stands alone on its side, and one partner on the other
+abbrev pub OwnGroupPair : Type 0
+OwnGroupPair =
+    (l : Ledger) (short : Bool) (c : ℕ) →
+    openingCheck (l .opening .duration) (l .opening .meters) (l .opening .categoryBytes) (l .opening .dayTypes) short .number ≡ 0 →
+    c < categories (l .opening) →
+    mayNet (category (l .opening)) (categories (l .opening)) false c ≡ true →
+    (p : ℕ) × (p < categories (l .opening)) × OnSide false activeExport (category (l .opening) c) (category (l .opening) p)
+    × (sideAt l false activeImport c ≡ c ∷ []) × (sideAt l false activeExport c ≡ p ∷ [])
+
+-- the sum of a list of signed numbers
+unfoldable pub signedTotal : List ℤ → ℤ
+signedTotal [] = pos 0
+signedTotal (x ∷ xs) = x +ℤ signedTotal xs
+
+-- net TOT is the sum of the net periods
+abbrev pub NetTotIsSum : Type 0
+NetTotIsSum = (l : Ledger) (a : NetCall) → netAt l a .tot ≡ signedTotal (netAt l a .periods)
+
+-- net TOT is TOT of the import side less TOT of the export side, and net TOT7 the same of TOT7
+abbrev pub NetOfTotals : Type 0
+NetOfTotals =
+    (l : Ledger) (a : NetCall) →
+    let imports = sideAt l (a .allGroups) activeImport (a .category) in
+    let exports = sideAt l (a .allGroups) activeExport (a .category) in
+    (netAt l a .tot ≡ pos (sumOver imports (λ c. totalsAt l (a .date) c .tot)) -ℤ pos (sumOver exports (λ c. totalsAt l (a .date) c .tot)))
+    × (netAt l a .tot7 ≡ pos (sumOver imports (λ c. totalsAt l (a .date) c .tot7)) -ℤ pos (sumOver exports (λ c. totalsAt l (a .date) c .tot7)))
+
+-- a mark is 0 exactly where none of the cells summed for the period is N, and else 1
+abbrev pub MarkExact : Type 0
+MarkExact =
+    (l : Ledger) (a : NetCall) (k : ℕ) → k < periods (l .opening) →
+    let summed = sideAt l (a .allGroups) activeImport (a .category) ++ sideAt l (a .allGroups) activeExport (a .category) in
+    ((getD (netAt l a .marks) k 0 ≡ 0) ↔ Every (λ c. cellAt l (a .date) c (suc k) .flag ≢ N) summed)
+    × (getD (netAt l a .marks) k 0 ≤ 1)
+
+-- a period where all cells summed are N nets to 0 with mark 1
+abbrev pub NothingNetsToZero : Type 0
+NothingNetsToZero =
+    (l : Ledger) (a : NetCall) (k : ℕ) → k < periods (l .opening) →
+    mayNet (category (l .opening)) (categories (l .opening)) (a .allGroups) (a .category) ≡ true →
+    Every (λ c. cellAt l (a .date) c (suc k) .flag ≡ N) (sideAt l (a .allGroups) activeImport (a .category) ++ sideAt l (a .allGroups) activeExport (a .category)) →
+    (getD (netAt l a .periods) k (pos 1) ≡ pos 0) × (getD (netAt l a .marks) k 0 ≡ 1)
+
+-- exchanging the two lists of categories changes every sign, and no mark; zero stays zero
+abbrev pub SidesExchanged : Type 0
+SidesExchanged =
+    (periods : ℕ) (isRun : ℕ → Bool) (cell : ℕ → ℕ → ℕ → Cell) (imports exports : List ℕ) (d : ℕ) →
+    let net = netOn periods isRun cell imports exports d in
+    let exchanged = netOn periods isRun cell exports imports d in
+    (exchanged .tot ≡ negℤ (net .tot)) × (exchanged .tot7 ≡ negℤ (net .tot7)) × (exchanged .periods ≡ map negℤ (net .periods)) × (exchanged .marks ≡ net .marks)
+    × (negℤ (pos 0) ≡ pos 0)

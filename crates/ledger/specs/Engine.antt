@@ -3,8 +3,8 @@ use Prim.Native.Nat.{ℕ, _<_, min}
 use mathlib.Core.Path.{_≡_}
 use mathlib.Core.List.{List, [], _∷_, _++_}
 use lib.ListN.{length, getD, take, drop}
-use Rattle.ledger.specs.Ledger.{Opening, Ledger, start, Call, register, receive, run, readTotals, readCell, Answer, accepted, moved, totalsAre, cellIs, answer, left, Lengths, ledgerAnswer, ledgerAfter}
-use Rattle.ledger.specs.Calls.{openingVerdict, openedSettings, openedMeters, openedReadings, openedCells, registrationVerdict, registeredMeters, receptionVerdict, receivedReadings, runVerdict, ranFrom, totalsVerdict, totalsFor, cellVerdict, cellFor}
+use Rattle.ledger.specs.Ledger.{Opening, Ledger, start, Call, register, receive, run, readTotals, readCell, readNet, Answer, accepted, moved, totalsAre, cellIs, netIs, answer, left, Lengths, ledgerAnswer, ledgerAfter}
+use Rattle.ledger.specs.Calls.{openingVerdict, openedSettings, openedMeters, openedReadings, openedCells, registrationVerdict, registeredMeters, receptionVerdict, receivedReadings, runVerdict, ranFrom, totalsVerdict, totalsFor, cellVerdict, cellFor, netVerdict, netFor}
 
 -- the parts of a store
 pub record Parts : Type 0 where
@@ -22,6 +22,7 @@ callAnswer p (run d) =
     (moved (ranFrom (p .settings) (p .meters) (p .readings) (p .cells) d .moved))
 callAnswer p (readTotals d c) = answer (totalsVerdict (p .settings) (p .cells) d c) (totalsAre (totalsFor (p .settings) (p .cells) d c))
 callAnswer p (readCell d c j) = answer (cellVerdict (p .settings) (p .cells) d c j) (cellIs (cellFor (p .settings) (p .cells) d c j))
+callAnswer p (readNet a) = answer (netVerdict (p .settings) (p .cells) a) (netIs (netFor (p .settings) (p .cells) a))
 
 -- and what it leaves: each call but the opening writes one part at most
 unfoldable pub metersAfter : Parts → Call → List ℕ
@@ -31,6 +32,7 @@ metersAfter p (receive a) = p .meters
 metersAfter p (run d) = p .meters
 metersAfter p (readTotals d c) = p .meters
 metersAfter p (readCell d c j) = p .meters
+metersAfter p (readNet a) = p .meters
 
 unfoldable pub readingsAfter : Parts → Call → List ℕ
 readingsAfter p (register a) = p .readings
@@ -39,6 +41,7 @@ readingsAfter p (receive a) =
 readingsAfter p (run d) = p .readings
 readingsAfter p (readTotals d c) = p .readings
 readingsAfter p (readCell d c j) = p .readings
+readingsAfter p (readNet a) = p .readings
 
 unfoldable pub cellsAfter : Parts → Call → List ℕ
 cellsAfter p (register a) = p .cells
@@ -48,6 +51,7 @@ cellsAfter p (run d) =
     (ranFrom (p .settings) (p .meters) (p .readings) (p .cells) d .cells)
 cellsAfter p (readTotals d c) = p .cells
 cellsAfter p (readCell d c j) = p .cells
+cellsAfter p (readNet a) = p .cells
 
 -- a call, and how much of each part it is lent
 pub record Item : Type 0 where
@@ -120,6 +124,7 @@ BodyOfBytes (receive a) = AreBytes (a .body)
 BodyOfBytes (run d) = Unit {0}
 BodyOfBytes (readTotals d c) = Unit {0}
 BodyOfBytes (readCell d c j) = Unit {0}
+BodyOfBytes (readNet a) = Unit {0}
 
 -- a condition on every entry of a list
 abbrev pub Every : {I : Type 0} → (I → Type 0) → List I → Type 0

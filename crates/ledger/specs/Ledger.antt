@@ -8,7 +8,8 @@ use lib.ListN.{length, getD}
 use Rattle.metering.specs.Sum.{sumBelow}
 use Rattle.metering.specs.Calendar.{periodsPerDay}
 use Rattle.ledger.specs.Method.{Category, categoryAt, ReadingSet, Picture, freshIn, Cell, Day, notRun, ran, cellOn, movedCell, Totals, totalsOn}
-use Rattle.ledger.specs.Checks.{Registration, RegistrationCall, ReceptionCall, Verdict, verdict, registered, startOf, inForce, registrationCheck, receptionCheck, readingIn, anyBelow, runCheck, readCheck, totalsInRange, cellInRange}
+use Rattle.ledger.specs.Net.{activeImport, activeExport, sideOf, Net, netOn}
+use Rattle.ledger.specs.Checks.{Registration, RegistrationCall, ReceptionCall, Verdict, verdict, registered, startOf, inForce, registrationCheck, receptionCheck, readingIn, anyBelow, runCheck, readCheck, totalsInRange, cellInRange, NetCall, resultsShort, mayNet, netCheck}
 use Rattle.ledger.specs.Sizes.{settingsLength, metersLength, readingsLength, cellsLength}
 
 -- ---- what it keeps
@@ -59,6 +60,7 @@ pub data Call : Type 0 where
   run : ℕ → Call
   readTotals : ℕ → ℕ → Call
   readCell : ℕ → ℕ → ℕ → Call
+  readNet : NetCall → Call
 
 -- a refusal has its number and place
 pub data Answer : Type 0 where
@@ -67,6 +69,7 @@ pub data Answer : Type 0 where
   moved : ℕ → Answer
   totalsAre : Totals → Answer
   cellIs : Cell → Answer
+  netIs : Net → Answer
 
 -- the first failed check's answer, or that of the accepted call
 unfoldable pub answer : Verdict → Answer → Answer
@@ -234,6 +237,22 @@ unfoldable pub totalsAt : Ledger → ℕ → ℕ → Totals
 totalsAt l d c =
     totalsOn (l .opening .duration) (periods (l .opening)) (category (l .opening) c .window) (isRun l) (λ x j. cellAt l x c j) d
 
+unfoldable pub ledgerNetCheck : Ledger → Lengths → NetCall → Verdict
+ledgerNetCheck l n a =
+    verdict
+    (netCheck (cellsShort (l .opening) n || resultsShort (periods (l .opening)) (a .numbers) (a .marks)) (dates (l .opening)) (a .date)
+    (totalsInRange (categories (l .opening)) (a .category))
+    (mayNet (category (l .opening)) (categories (l .opening)) (a .allGroups) (a .category))
+    (isRun l (a .date)))
+
+-- the categories on one side of a net
+unfoldable pub sideAt : Ledger → Bool → ℕ → ℕ → List ℕ
+sideAt l allGroups quantity c = sideOf (category (l .opening)) (categories (l .opening)) allGroups quantity c
+
+unfoldable pub netAt : Ledger → NetCall → Net
+netAt l a =
+    netOn (periods (l .opening)) (isRun l) (cellAt l) (sideAt l (a .allGroups) activeImport (a .category)) (sideAt l (a .allGroups) activeExport (a .category)) (a .date)
+
 -- ---- a call
 
 unfoldable pub ledgerAnswer : Ledger → Lengths → Call → Answer
@@ -242,6 +261,7 @@ ledgerAnswer l n (receive a) = answer (ledgerReceptionCheck l n a) accepted
 ledgerAnswer l n (run d) = answer (ledgerRunCheck l n d) (moved (movedBetween (l .opening) (cellAt l) (cellAt (afterRun l d))))
 ledgerAnswer l n (readTotals d c) = answer (ledgerTotalsCheck l n d c) (totalsAre (totalsAt l d c))
 ledgerAnswer l n (readCell d c j) = answer (ledgerCellCheck l n d c j) (cellIs (cellAt l d c j))
+ledgerAnswer l n (readNet a) = answer (ledgerNetCheck l n a) (netIs (netAt l a))
 
 unfoldable pub ledgerAfter : Ledger → Lengths → Call → Ledger
 ledgerAfter l n (register a) = left (ledgerRegistrationCheck l n a) l (afterRegistration l a)
@@ -249,3 +269,4 @@ ledgerAfter l n (receive a) = left (ledgerReceptionCheck l n a) l (afterReceptio
 ledgerAfter l n (run d) = left (ledgerRunCheck l n d) l (afterRun l d)
 ledgerAfter l n (readTotals d c) = l
 ledgerAfter l n (readCell d c j) = l
+ledgerAfter l n (readNet a) = l

@@ -1,19 +1,23 @@
--- The scope paper's marked list as one computed check, and its worked example as a computed run of the ledger.
-use Prim.Native.Nat.{ℕ, zero, suc}
+-- The scope paper's marked list as one computed check; its worked example and one of nets as computed runs of the ledger.
+use Prim.Native.Nat.{ℕ, zero, suc, _/_, _%_}
 use mathlib.Core.Path.{_≡_, refl}
-use mathlib.Core.Bool.{Bool, true, not, _&&_, Bool·beq}
+use mathlib.Core.Bool.{Bool, true, false, not, _&&_, Bool·beq}
 use mathlib.Core.List.{List, [], _∷_}
 use mathlib.Core.Option.{some}
 use lib.Dec.{eqb}
+use lib.IntN.{ℤ, pos, negsuc}
+use lib.ListN.{replicate}
 use Rattle.metering.specs.Sum.{sumBelow}
 use Rattle.metering.specs.Mpan.{mpanValid, checkDigit, weightedSum, product, digit, weights}
 use Rattle.metering.specs.Average.{average, annual}
 use Rattle.metering.specs.Range.{between}
 use Rattle.metering.specs.Calendar.{periodsPerDay, periodEnding, liesWithin, windowStart, windowEnd}
 use Rattle.ledger.specs.Method.{Category, categoryAt, isSmart, sameFamily, Entry, Picture, total, freshOf, freshIn, Cell, D, blank, carried, cellFrom, ran, pass, latest, cellOf, cellOn, sameCell, movedCell, overRunDates, totOn, offOn, peakOn, totalsOn}
-use Rattle.ledger.specs.Checks.{firstFailed, anyBelow, recordNumber, endMinute, quality, wattHoursAt, startOf, later, inForceAfter, inForce, notAfterLast, registrationInRange, meterNumber, registrationCheck, bodyCheck, inForceCheck, receptionCheck, isReading, readingIn, runCheck, readCheck, totalsInRange, cellInRange}
+use Rattle.ledger.specs.Table.{tabulate}
+use Rattle.ledger.specs.Net.{onSide, chosenBelow, sideOf, sumOver, anyOf, signedSum, netPeriod, markOf, netTot, netTot7, netOn}
+use Rattle.ledger.specs.Checks.{firstFailed, anyBelow, recordNumber, endMinute, quality, wattHoursAt, startOf, later, inForceAfter, inForce, notAfterLast, registrationInRange, meterNumber, registrationCheck, bodyCheck, inForceCheck, receptionCheck, isReading, readingIn, runCheck, readCheck, totalsInRange, cellInRange, resultsShort, mayNet, netCheck}
 use Rattle.ledger.specs.Sizes.{settingsLength, metersLength, readingsLength, cellsLength}
-use Rattle.ledger.specs.Ledger.{Opening, Ledger, start, Call, register, receive, run, readTotals, readCell, Answer, refused, accepted, moved, totalsAre, answer, left, Lengths, settingsShort, metersShort, cellsShort, anyShort, meterWith, changed, heldFrom, ledgerRegistrationCheck, registerIn, afterRegistration, ledgerReceptionCheck, setOf, at, afterReception, cellBy, cellAt, isRun, ledgerRunCheck, pictureOf, afterRun, movedBetween, ledgerTotalsCheck, ledgerCellCheck, totalsAt, ledgerAnswer, ledgerAfter}
+use Rattle.ledger.specs.Ledger.{Opening, Ledger, start, Call, register, receive, run, readTotals, readCell, readNet, Answer, refused, accepted, moved, totalsAre, netIs, answer, left, Lengths, settingsShort, metersShort, cellsShort, anyShort, meterWith, changed, heldFrom, ledgerRegistrationCheck, registerIn, afterRegistration, ledgerReceptionCheck, setOf, at, afterReception, cellBy, cellAt, isRun, ledgerRunCheck, pictureOf, afterRun, movedBetween, ledgerTotalsCheck, ledgerCellCheck, totalsAt, ledgerNetCheck, sideAt, netAt, ledgerAnswer, ledgerAfter}
 
 -- the test holds of the n periods from 1 on
 unfoldable pub everyPeriod : ℕ → (ℕ → Bool) → Bool
@@ -101,6 +105,82 @@ unfoldable pub ledgerRun : Ledger → Lengths → List Call → List Answer
 ledgerRun l n [] = []
 ledgerRun l n (a ∷ rest) = ledgerAnswer l n a ∷ ledgerRun (ledgerAfter l n a) n rest
 
-pub worked-example : ledgerRun (start exampleOpening) (record { settings = 18; meters = 41; readings = 98; cells = 96 }) exampleCalls ≡ exampleAnswers
-unfolding ledgerRun start ledgerAnswer ledgerAfter answer left settingsShort metersShort cellsShort anyShort meterWith changed heldFrom ledgerRegistrationCheck registerIn afterRegistration ledgerReceptionCheck setOf at afterReception cellBy cellAt isRun ledgerRunCheck pictureOf afterRun movedBetween ledgerTotalsCheck ledgerCellCheck totalsAt settingsLength metersLength readingsLength cellsLength firstFailed startOf later inForceAfter inForce notAfterLast registrationInRange meterNumber registrationCheck bodyCheck inForceCheck receptionCheck isReading readingIn runCheck readCheck totalsInRange cellInRange movedCell overRunDates totOn offOn peakOn totalsOn categoryAt mpanValid checkDigit weightedSum product digit weights sumBelow average annual recordNumber periodEnding periodsPerDay liesWithin windowStart windowEnd between sameCell blank cellOn cellOf cellFrom latest pass freshIn freshOf total isSmart sameFamily anyBelow endMinute quality wattHoursAt carried
-worked-example = refl
+-- ---- a worked example of nets (change request 2026-13)
+
+-- import and export of groups A and B, the last with de-minimis 2; two dates of one day type
+abbrev pub netOpening : Opening
+netOpening =
+    record {
+      duration = 30;
+      meters = 3;
+      categoryBytes =
+          1 ∷ 1 ∷ 1 ∷ 1 ∷ 1 ∷ 0 ∷ 0 ∷ 1
+          ∷ 1 ∷ 1 ∷ 1 ∷ 2 ∷ 1 ∷ 0 ∷ 0 ∷ 1
+          ∷ 1 ∷ 2 ∷ 1 ∷ 1 ∷ 1 ∷ 0 ∷ 0 ∷ 1
+          ∷ 1 ∷ 2 ∷ 1 ∷ 2 ∷ 1 ∷ 0 ∷ 0 ∷ 2
+          ∷ [];
+      dayTypes = 1 ∷ 1 ∷ [];
+    }
+
+abbrev pub registers : ℕ → ℕ → Call
+registers mpan c = register (record { mpan = mpan; date = 0; minute = 0; category = c; sender = 7; status = 1; limit = 10000 })
+
+abbrev pub sends : ℕ → ℕ → List ℕ → Call
+sends mpan quantity body = receive (record { sender = 7; mpan = mpan; date = 0; duration = 30; quantity = quantity; body = body })
+
+-- a record of quality 1 with fewer than 512 Wh
+abbrev pub half : ℕ → ℕ → List ℕ → List ℕ
+half end wh rest = 0 ∷ end ∷ 1 ∷ 0 ∷ 0 ∷ wh / 256 ∷ wh % 256 ∷ rest
+
+abbrev pub asksNet : Bool → ℕ → ℕ → Call
+asksNet allGroups d c = readNet (record { allGroups = allGroups; date = d; category = c; numbers = 48; marks = 50 })
+
+-- 400, 100 and 50 Wh in periods 1 to 3 of category 0; 150 and 350 Wh in periods 1 and 2 of category 1; 200 Wh in period 1 of category 2
+abbrev pub netCalls : List Call
+netCalls =
+    registers 1000000000003 0
+    ∷ registers 1010000000000 1
+    ∷ registers 29 2
+    ∷ sends 1000000000003 1 (half 30 400 (half 60 100 (half 90 50 [])))
+    ∷ sends 1010000000000 2 (half 30 150 (half 60 350 []))
+    ∷ sends 29 1 (half 30 200 [])
+    ∷ run 0
+    ∷ asksNet false 0 0
+    ∷ asksNet false 0 2
+    ∷ asksNet true 0 0
+    ∷ asksNet true 0 2
+    ∷ asksNet false 1 1
+    ∷ asksNet false 1 0
+    ∷ readNet (record { allGroups = false; date = 2; category = 0; numbers = 48; marks = 47 })
+    ∷ run 1
+    ∷ asksNet false 1 0
+    ∷ []
+
+-- the first three periods of a net, the others being 0, and their marks, the others being 1
+abbrev pub netOf : ℤ → ℤ → ℤ → ℤ → ℤ → ℕ → ℕ → ℕ → Answer
+netOf tot tot7 a b c x y z =
+    netIs (record { tot = tot; tot7 = tot7; periods = a ∷ b ∷ c ∷ replicate 45 (pos 0); marks = x ∷ y ∷ z ∷ replicate 45 1 })
+
+-- a mark is a cell that is N: none in the first two periods of group A, one in each period of group B, whose export never had two readings
+abbrev pub netAnswers : List Answer
+netAnswers =
+    accepted ∷ accepted ∷ accepted ∷ accepted ∷ accepted ∷ accepted
+    ∷ moved 8
+    ∷ netOf (pos 50) (pos 50) (pos 250) (negsuc 249) (pos 50) 0 0 1
+    ∷ netOf (pos 350) (pos 350) (pos 200) (pos 100) (pos 50) 1 1 1
+    ∷ netOf (pos 400) (pos 400) (pos 450) (negsuc 149) (pos 100) 1 1 1
+    ∷ netOf (pos 400) (pos 400) (pos 450) (negsuc 149) (pos 100) 1 1 1
+    ∷ refused 26 0
+    ∷ refused 14 0
+    ∷ refused 1 0
+    ∷ moved 8
+    ∷ netOf (pos 50) (pos 100) (pos 250) (negsuc 249) (pos 50) 0 0 1
+    ∷ []
+
+-- ---- both, computed
+
+pub worked-examples :
+    (ledgerRun (start exampleOpening) (record { settings = 18; meters = 41; readings = 98; cells = 96 }) exampleCalls ≡ exampleAnswers)
+    × (ledgerRun (start netOpening) (record { settings = 42; meters = 123; readings = 294; cells = 384 }) netCalls ≡ netAnswers)
+unfolding ledgerRun start ledgerAnswer ledgerAfter answer left settingsShort metersShort cellsShort anyShort meterWith changed heldFrom ledgerRegistrationCheck registerIn afterRegistration ledgerReceptionCheck setOf at afterReception cellBy cellAt isRun ledgerRunCheck pictureOf afterRun movedBetween ledgerTotalsCheck ledgerCellCheck totalsAt settingsLength metersLength readingsLength cellsLength firstFailed startOf later inForceAfter inForce notAfterLast registrationInRange meterNumber registrationCheck bodyCheck inForceCheck receptionCheck isReading readingIn runCheck readCheck totalsInRange cellInRange movedCell overRunDates totOn offOn peakOn totalsOn categoryAt mpanValid checkDigit weightedSum product digit weights sumBelow average annual recordNumber periodEnding periodsPerDay liesWithin windowStart windowEnd between sameCell blank cellOn cellOf cellFrom latest pass freshIn freshOf total isSmart sameFamily anyBelow endMinute quality wattHoursAt carried netCheck resultsShort mayNet ledgerNetCheck sideAt netAt onSide chosenBelow sideOf sumOver anyOf signedSum netPeriod markOf netTot netTot7 netOn tabulate
+worked-examples = (refl, refl)

@@ -14,7 +14,7 @@ ghost use Rattle.ledger.specs.Checks.{runCheck, totalsInRange, cellInRange};
 ghost use Rattle.ledger.specs.Store.{categoriesOf, datesOf, periodsOf, rowOf, settingsReady, cellsReady, isRunAt};
 ghost use Rattle.ledger.specs.Calls.{cellsUnready, totalsVerdict, cellVerdict};
 
-fn first_failed(first: u64, second: u64) -> u64
+pub fn first_failed(first: u64, second: u64) -> u64
     ensures { λ r. ⌜ r ≡ cond (eqb first 0) second first ⌝ }
 {
     if first == 0 {
@@ -65,7 +65,7 @@ fn period_number(settings: &[u8], category: u64, period: u64) -> u64
 }
 
 // 14: the date is not run.
-fn run_number(settings: &[u8], cells: &[u64], date: u64) -> u64
+pub fn run_number(settings: &[u8], cells: &[u64], date: u64) -> u64
     requires { ⌜ (settingsReady (now settings) ≡ true) × (cellsReady (now settings) (now cells) ≡ true) × (date < datesOf (now settings)) ⌝ }
     ensures { λ r. ⌜ r ≡ cond (not (isRunAt (rowOf (now (settings .entry))) (now (cells .entry)) date)) 14 0 ⌝ }
 {

@@ -9,11 +9,11 @@ ghost use Rattle.ledger.specs.Ledger.{answer, cellIs, totalsAre};
 ghost use Rattle.ledger.specs.Calls.{cellVerdict, cellFor, totalsVerdict, totalsFor};
 ghost use Rattle.reports.specs.Answer.{cellAnswer, totalsAnswer};
 
-mod checks;
-mod column;
-mod dates;
+pub mod checks;
+pub mod column;
+pub mod dates;
 mod figures;
-mod periods;
+pub mod periods;
 
 pub enum CellOutcome {
     Cell(Cell),

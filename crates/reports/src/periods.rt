@@ -67,7 +67,7 @@ fn fresh_number(flag: Flag) -> u64
     }
 }
 
-fn blank_number(flag: Flag) -> u64
+pub fn blank_number(flag: Flag) -> u64
     ensures { λ r. ⌜ Figure 1 (isBlank (flagMeant flag)) r ⌝ }
 {
     match flag {

@@ -14,22 +14,13 @@ use borrow.Author.Tests.{eqb-true, eqb-false, leb-true}
 use Rattle.metering.specs.Laws.{average-le}
 use Rattle.metering.specs.Average.{average}
 use Rattle.metering.specs.Sum.{sumBelow, sumBelow-suc, sumBelow-zero}
-use Rattle.ledger.proofs.Lists.{length-tabulate, getD-tabulate, sumBelow-cong, sumBelow-more}
+use Rattle.ledger.proofs.Lists.{length-tabulate, getD-tabulate, tabulate-ext, filled, sumBelow-cong, sumBelow-more}
 use Rattle.ledger.specs.Method.{absent, own, pooled}
-use Rattle.ledger.specs.Table.{tabulate}
+use Rattle.ledger.specs.Table.{tabulate, filling}
 use Rattle.ledger.specs.Calls.{differing}
-use Rattle.rows.specs.Rows.{filling, differenceOf, isEnough, Averaged, freshBy}
+use Rattle.rows.specs.Rows.{differenceOf, isEnough, Averaged, freshBy}
 
 -- ---- lists made from a function
-
-pub tabulate-suc : (n : ℕ) (f : ℕ → ℕ) → tabulate (suc n) f ≡ tabulate n f ++ (f n ∷ [])
-unfolding tabulate
-tabulate-suc n f = refl
-
-pub tabulate-ext : (n : ℕ) (f g : ℕ → ℕ) → ((k : ℕ) → k < n → f k ≡ g k) → tabulate n f ≡ tabulate n g
-unfolding tabulate
-tabulate-ext zero f g h = refl
-tabulate-ext (suc n) f g h = rw (tabulate-ext n f g (λ k l. h k (omega arith)), h n (omega arith))
 
 pub tabulate-add : (m n : ℕ) (f : ℕ → ℕ) → tabulate (m + n) f ≡ tabulate m f ++ tabulate n (λ k. f (m + k))
 unfolding tabulate
@@ -44,25 +35,10 @@ tabulate-getD xs f h =
 -- ---- rows while they are filled
 
 module _ (f : ℕ → ℕ) (xs : List ℕ) where
-  pub filling-zero : filling 0 f xs ≡ xs
-  unfolding filling tabulate
-  filling-zero = refl
-
-  pub filling-length : (k : ℕ) → k ≤ length xs → length (filling k f xs) ≡ length xs
-  unfolding filling
-  filling-length k h = rw (length-append, length-tabulate, length-drop) (omega arith)
-
-  -- the next place is as it was, and takes f's value
+  -- the next place is as it was
   pub filling-at : (k : ℕ) → k < length xs → getD (filling k f xs) k 0 ≡ getD xs k 0
   unfolding filling
   filling-at k h = rw (drop-cons xs k 0 h) (getD-at (tabulate k f) (getD xs k 0) (drop (suc k) xs) 0 k (length-tabulate k f))
-
-  pub filling-next : (k : ℕ) → k < length xs → set (filling k f xs) k (f k) ≡ filling (suc k) f xs
-  unfolding filling
-  filling-next k h =
-      rw (drop-cons xs k 0 h, tabulate-suc k f)
-      (set-at (tabulate k f) (getD xs k 0) (drop (suc k) xs) (f k) k (length-tabulate k f)
-      ∙ sym (append-assoc (tabulate k f) (f k ∷ []) (drop (suc k) xs)))
 
   pub filling-below : (n k : ℕ) → k < n → getD (filling n f xs) k 0 ≡ f k
   unfolding filling
@@ -93,15 +69,8 @@ filling-stretch f g xs k n h =
     )
     (sym (append-assoc (tabulate k f) (tabulate n (λ p. f (k + p))) (drop (k + n) xs)))
 
--- a loop's turn: the next place is set to f's value
-pub fill : (f : ℕ → ℕ) (xs ys : List ℕ) (k v : ℕ) → ys ≡ filling k f xs → k < length xs → v ≡ f k → set ys k v ≡ filling (k + 1) f xs
-fill f xs ys k v so low is = rw (so, is, add-one k) (filling-next f xs k low)
-
 pub unfilled : (f : ℕ → ℕ) (xs ys : List ℕ) (k : ℕ) → ys ≡ filling k f xs → k < length xs → getD ys k 0 ≡ getD xs k 0
 unfilled f xs ys k so low = rw so (filling-at f xs k low)
-
-pub filled : (f : ℕ → ℕ) (xs ys : List ℕ) (k n : ℕ) → ys ≡ filling k f xs → k ≡ n → ys ≡ filling n f xs
-filled f xs ys k n so is = so ∙ ap (λ (m : ℕ). filling m f xs) is
 
 pub filled-whole : (f : ℕ → ℕ) (xs ys : List ℕ) (k n : ℕ) → ys ≡ filling k f xs → k ≡ n → n ≡ length xs → ys ≡ tabulate n f
 filled-whole f xs ys k n so is whole =

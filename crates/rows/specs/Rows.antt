@@ -1,19 +1,14 @@
--- Rows while they are filled, and a category's entry from sums and counts.
+-- Rows with something added, and a category's entry from sums and counts.
 use Prim.Native.Nat.{ℕ, _+_, _*_, _≤_}
 use mathlib.Core.Bool.{Bool, _&&_, cond}
-use mathlib.Core.List.{List, _++_}
+use mathlib.Core.List.{List}
 use mathlib.Core.Option.{Option}
 use lib.Dec.{leb, eqb}
-use lib.ListN.{getD, drop}
+use lib.ListN.{getD}
 use Rattle.metering.specs.Average.{average}
 use Rattle.ledger.specs.Method.{Fresh, absent, own, pooled}
 use Rattle.ledger.specs.Store.{readingOf}
-use Rattle.ledger.specs.Table.{tabulate}
 use Rattle.ledger.specs.Calls.{carriedEntry, isOwn, rowEntry}
-
--- the first k places have f's values, the others stand
-unfoldable pub filling : ℕ → (ℕ → ℕ) → List ℕ → List ℕ
-filling k f xs = tabulate k f ++ drop k xs
 
 -- place p of a row with the readings that start at `first` added to it
 abbrev pub setAdded : (Option ℕ → ℕ) → List ℕ → ℕ → List ℕ → ℕ → ℕ

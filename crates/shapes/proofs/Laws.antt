@@ -18,12 +18,12 @@ use Rattle.ledger.specs.Checks.{runCheck}
 use Rattle.ledger.specs.Sizes.{cellsLength}
 use Rattle.ledger.specs.Ready.{Ready}
 use Rattle.ledger.specs.Store.{metersOf, categoriesOf, datesOf, periodsOf, rowOf, categoryOf, dayTypeOf, settingsReady, metersReady, readingsReady, cellsReady, isRunAt, readingAt, entryOf}
-use Rattle.ledger.specs.Table.{tabulate}
+use Rattle.ledger.specs.Table.{tabulate, filling}
 use Rattle.ledger.specs.Calls.{countsFor, tally, familyTally, freshAt, rowAt, putRow, lastRun, overFrom, seen, differing, carriedEntry, Ran, followRow, overAfter, movedInRow, carryOn, newRow, ranFrom, runUnready, runVerdict}
 use Rattle.store.specs.Entry.{reading-bound}
-use Rattle.rows.specs.Rows.{filling, isEnough, freshBy, followedEntry, overBeyond}
-use Rattle.ledger.proofs.Lists.{length-tabulate, getD-tabulate, sumBelow-cong}
-use Rattle.rows.proofs.Laws.{tabulate-ext, tabulate-getD, filling-below, sumBelow-times, differing-le, differing-ext, differing-none}
+use Rattle.rows.specs.Rows.{isEnough, freshBy, followedEntry, overBeyond}
+use Rattle.ledger.proofs.Lists.{length-tabulate, getD-tabulate, sumBelow-cong, tabulate-ext}
+use Rattle.rows.proofs.Laws.{tabulate-getD, filling-below, sumBelow-times, differing-le, differing-ext, differing-none}
 use Rattle.tally.specs.Sums.{spliced, tallyBelow, Tallied, Bounded, pooledBelow, entryFrom, rowFrom}
 use Rattle.tally.proofs.Laws.{place-below, part-at, part-length, category-below, period-below, place-is, tally-most}
 use Rattle.shapes.specs.Walk.{Stepped, settled}

@@ -1,4 +1,7 @@
 // The engine: all public calls in one place. None has a `requires`; each contract stands with its call.
+pub use netting::Net;
+pub use netting::NetOutcome;
+pub use netting::read_net;
 pub use opening::open;
 pub use registry::reception::receive;
 pub use registry::registration::register;

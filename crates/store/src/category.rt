@@ -7,6 +7,7 @@ ghost use Prim.Native.Nat.{_+_, _*_, _<_};
 ghost use lib.ListN.{drop};
 ghost use Rattle.store.specs.Access.{Byte};
 ghost use Rattle.ledger.specs.Method.{isSmart, sameFamily};
+ghost use Rattle.ledger.specs.Net.{withQuantity, onSide};
 ghost use Rattle.ledger.specs.Store.{categoriesOf, datesOf, categoryOf, dayTypeOf, settingsReady};
 
 fn category_byte(settings: &[u8], category: u64, k: u64) -> u64
@@ -44,10 +45,10 @@ pub fn de_minimis(settings: &[u8], category: u64) -> u64
     256 * category_byte(settings, category, 6) + category_byte(settings, category, 7)
 }
 
-// Smart categories alike in domestic, quantity and connection.
-pub fn same_family(settings: &[u8], a: u64, b: u64) -> bool
+// Whether b is of the family that a has, or would have with this quantity.
+fn in_family(settings: &[u8], quantity: u64, a: u64, b: u64) -> bool
     requires { ⌜ (settingsReady (now settings) ≡ true) × (a < categoriesOf (now settings)) × (b < categoriesOf (now settings)) ⌝ }
-    ensures { λ r. ⌜ r ≡ sameFamily (categoryOf (now (settings .entry)) a) (categoryOf (now (settings .entry)) b) ⌝ }
+    ensures { λ r. ⌜ r ≡ sameFamily (withQuantity quantity (categoryOf (now (settings .entry)) a)) (categoryOf (now (settings .entry)) b) ⌝ }
 {
     if !is_smart(settings, a) {
         return false;
@@ -58,10 +59,32 @@ pub fn same_family(settings: &[u8], a: u64, b: u64) -> bool
     if category_byte(settings, a, 2) != category_byte(settings, b, 2) {
         return false;
     }
-    if category_byte(settings, a, 3) != category_byte(settings, b, 3) {
+    if quantity != category_byte(settings, b, 3) {
         return false;
     }
     category_byte(settings, a, 4) == category_byte(settings, b, 4)
+}
+
+// Smart categories alike in domestic, quantity and connection.
+pub fn same_family(settings: &[u8], a: u64, b: u64) -> bool
+    requires { ⌜ (settingsReady (now settings) ≡ true) × (a < categoriesOf (now settings)) × (b < categoriesOf (now settings)) ⌝ }
+    ensures { λ r. ⌜ r ≡ sameFamily (categoryOf (now (settings .entry)) a) (categoryOf (now (settings .entry)) b) ⌝ }
+{
+    in_family(settings, quantity(settings, a), a, b)
+}
+
+// Whether b stands on a net's side of this quantity: in that family, and in a's group unless all groups are pooled.
+pub fn on_side(settings: &[u8], all_groups: bool, quantity: u64, a: u64, b: u64) -> bool
+    requires { ⌜ (settingsReady (now settings) ≡ true) × (a < categoriesOf (now settings)) × (b < categoriesOf (now settings)) ⌝ }
+    ensures { λ r. ⌜ r ≡ onSide «all_groups» quantity (categoryOf (now (settings .entry)) a) (categoryOf (now (settings .entry)) b) ⌝ }
+{
+    if !in_family(settings, quantity, a, b) {
+        return false;
+    }
+    if all_groups {
+        return true;
+    }
+    category_byte(settings, a, 1) == category_byte(settings, b, 1)
 }
 
 pub fn day_type(settings: &[u8], date: u64) -> u64

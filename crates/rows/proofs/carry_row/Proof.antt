@@ -5,8 +5,8 @@ use native.Mathlib.Omega.{arith}
 use borrow.Author.Needs.{needs}
 use lib.ListN.{length, getD, length-set}
 use Rattle.ledger.specs.Calls.{carriedEntry}
-use Rattle.rows.specs.Rows.{filling}
-use Rattle.rows.proofs.Laws.{filling-zero, fill, filled}
+use Rattle.ledger.specs.Table.{filling}
+use Rattle.ledger.proofs.Lists.{filling-zero, fill, filled}
 use Rattle.rows.proofs.carry_row.Statement.{statement}
 use Rattle.rows.proofs.carry_row.Tie as tie
 

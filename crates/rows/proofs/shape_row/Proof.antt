@@ -5,8 +5,10 @@ use native.Mathlib.Omega.{arith}
 use borrow.Author.Needs.{needs}
 use lib.ListN.{length, getD, length-set}
 use Rattle.ledger.specs.Calls.{differing, seen}
-use Rattle.rows.specs.Rows.{filling, shapeAt, differenceOf}
-use Rattle.rows.proofs.Laws.{filling-zero, fill, unfilled, filled-whole, differing-zero, differing-le, differenceOf-le, count-next, counted}
+use Rattle.rows.specs.Rows.{shapeAt, differenceOf}
+use Rattle.ledger.specs.Table.{filling}
+use Rattle.rows.proofs.Laws.{unfilled, filled-whole, differing-zero, differing-le, differenceOf-le, count-next, counted}
+use Rattle.ledger.proofs.Lists.{filling-zero, fill}
 use Rattle.rows.proofs.shape_row.Statement.{statement}
 use Rattle.rows.proofs.shape_row.Tie as tie
 

@@ -6,8 +6,9 @@ use lib.ListN.{length, getD}
 use Rattle.ledger.specs.Ready.{ready}
 use Rattle.ledger.specs.Store.{categoriesOf, periodsOf, rowOf}
 use Rattle.ledger.specs.Calls.{seen, differing}
-use Rattle.rows.specs.Rows.{filling}
-use Rattle.rows.proofs.Laws.{filling-length, filled-whole, differing-le, counted}
+use Rattle.ledger.specs.Table.{filling}
+use Rattle.rows.proofs.Laws.{filled-whole, differing-le, counted}
+use Rattle.ledger.proofs.Lists.{filling-length}
 use Rattle.tally.specs.Sums.{rowFrom}
 use Rattle.tally.proofs.Laws.{eight, stretch, row-bounds, part-width, next-stretch, row-start, count-start, row-step, count-step, row-end}
 use Rattle.tally.proofs.write.write_row.Statement.{statement}

@@ -1,0 +1,326 @@
+-- What is promised of net reads.
+use Prim.Native.Nat.{ℕ, zero, suc, _+_, _*_, _/_, _≤_, _<_}
+use mathlib.Core.Path.{_≡_, refl, sym, ap, _∙_}
+use mathlib.Core.Logic.{_≢_, ⊎-elim}
+use mathlib.Core.Bool.{Bool, true, false, not, _&&_, _||_, cond, and-eq-true-iff, or-true, true≢false}
+use mathlib.Core.List.{List, [], _∷_, _++_, map, map-append}
+use native.Mathlib.Omega.{arith}
+use native.Mathlib.Nat.{zero-add, add-zero}
+use lib.Dec.{eqb, ltb}
+use lib.ListN.{length, getD, length-append}
+use lib.IntN.{ℤ, pos, negℤ, _+ℤ_, _-ℤ_, +ℤ-assoc, +ℤ-idl, +ℤ-idr}
+use borrow.Table.Steps.{cases}
+use borrow.Author.Tests.{eq-eqb, eqb-true, eqb-false, ltb-true, ltb-false}
+use Rattle.metering.specs.Sum.{sumBelow}
+use Rattle.metering.specs.Range.{categoryValid}
+use Rattle.ledger.specs.Method.{Category, categoryAt, isSmart, sameFamily, Flag, A, D, E, N, Cell, Fresh, absent, own, pooled, blank, carried, cellFrom, Day, notRun, ran, latest, cellOf, cellOn, totOn, totalsOn}
+use Rattle.ledger.specs.Table.{tabulate}
+use Rattle.ledger.specs.Net.{activeImport, activeExport, withQuantity, onSide, chosenBelow, sideOf, sumOver, anyOf, signedSum, isN, netPeriod, markOf, netTot, netTot7, netOn}
+use Rattle.ledger.specs.Checks.{anyBelow, firstFailed, verdict, recordAt, sameKey, categoryNumber, dayTypeNumber, sizesValid, openingCheck, orElse, mayNet, NetCall}
+use Rattle.ledger.specs.Ledger.{Opening, categories, dates, periods, category, dayType, Ledger, cellBy, cellAt, isRun, dayOf, totalsAt, sideAt, netAt}
+use Rattle.ledger.specs.Engine.{Every}
+use Rattle.ledger.specs.Demands.{OnSide, SideExact, OwnGroupPair, signedTotal, NetTotIsSum, NetOfTotals, MarkExact, NothingNetsToZero, SidesExchanged}
+use Rattle.ledger.proofs.Choices.{passed-verdict, neither}
+use Rattle.ledger.proofs.Receive.{first-passed}
+use Rattle.ledger.proofs.Open.{passed-else}
+use Rattle.ledger.proofs.Demands.{any-false}
+use Rattle.ledger.proofs.Lists.{tabulate-at, getD-tabulate, tabulate-ext}
+use Rattle.ledger.proofs.Nets.{sumOver-append, chosen-pass, anyOf-append, tot-minus, tot7-minus, period-swapped, tot-swapped, tot7-swapped, mark-swapped}
+
+-- ---- sides
+
+sum-chosen : (n : ℕ) (test : ℕ → Bool) (f : ℕ → ℕ) → sumOver (chosenBelow n test) f ≡ sumBelow n (λ b. cond (test b) (f b) 0)
+unfolding chosenBelow sumBelow
+sum-chosen zero test f = (unfold sumOver in refl)
+sum-chosen (suc n) test f =
+    sumOver-append (chosenBelow n test) (cond (test n) (n ∷ []) []) f
+    ∙ rw (sum-chosen n test f) (cases (test n) (λ q. rw q (unfold sumOver in rw add-zero)) (λ q. rw q (unfold sumOver in refl)))
+
+-- both halves of a test
+module _ (allGroups : Bool) (quantity : ℕ) (a b : Category) where
+  to-side : onSide allGroups quantity a b ≡ true → OnSide allGroups quantity a b
+  unfolding onSide sameFamily isSmart
+  to-side e =
+      let p = and-eq-true-iff _ (allGroups || eqb (a .group) (b .group)) .0 e in
+      let q = and-eq-true-iff _ (eqb (a .connection) (b .connection)) .0 (p .0) in
+      let r = and-eq-true-iff _ (eqb quantity (b .quantity)) .0 (q .0) in
+      let s = and-eq-true-iff _ (eqb (a .domestic) (b .domestic)) .0 (r .0) in
+      let t = and-eq-true-iff (eqb (a .segment) 1) (eqb (b .segment) 1) .0 (s .0) in
+      record {
+        smart = (eqb-true _ _ (t .0), eqb-true _ _ (t .1));
+        same-quantity = sym (eqb-true _ _ (r .1));
+        same-domestic = sym (eqb-true _ _ (s .1));
+        same-connection = sym (eqb-true _ _ (q .1));
+        same-group = λ own-group. sym (eqb-true _ _ (rw own-group at (p .1)));
+      }
+
+  from-side : OnSide allGroups quantity a b → onSide allGroups quantity a b ≡ true
+  unfolding onSide sameFamily isSmart
+  from-side s =
+      rw (
+        eq-eqb _ _ (s .smart .0),
+        eq-eqb _ _ (s .smart .1),
+        eq-eqb (a .domestic) (b .domestic) (sym (s .same-domestic)),
+        eq-eqb quantity (b .quantity) (sym (s .same-quantity)),
+        eq-eqb (a .connection) (b .connection) (sym (s .same-connection)),
+      )
+      (cases allGroups (λ q. rw q) (λ q. rw (q, eq-eqb (a .group) (b .group) (sym (s .same-group q)))))
+
+pub side-exact : SideExact
+unfolding sideAt sideOf
+side-exact l allGroups quantity c = (λ f. sum-chosen (categories (l .opening)) _ f, λ a b. (to-side allGroups quantity a b, from-side allGroups quantity a b))
+
+-- ---- sums
+
+total-append : (xs ys : List ℤ) → signedTotal (xs ++ ys) ≡ signedTotal xs +ℤ signedTotal ys
+unfolding signedTotal
+total-append [] ys = sym (+ℤ-idl (signedTotal ys))
+total-append (x ∷ xs) ys = ap (λ t. x +ℤ t) (total-append xs ys) ∙ sym (+ℤ-assoc x (signedTotal xs) (signedTotal ys))
+
+total-one : (x : ℤ) → signedTotal (x ∷ []) ≡ x
+unfolding signedTotal
+total-one x = +ℤ-idr x
+
+total-tabulated : (n : ℕ) (f : ℕ → ℤ) → signedSum n f ≡ signedTotal (tabulate n f)
+unfolding signedSum tabulate
+total-tabulated zero f = (unfold signedTotal in refl)
+total-tabulated (suc n) f =
+    ap (λ t. t +ℤ f n) (total-tabulated n f)
+    ∙ ap (λ t. signedTotal (tabulate n f) +ℤ t) (sym (total-one (f n)))
+    ∙ sym (total-append (tabulate n f) (f n ∷ []))
+
+pub net-tot-is-sum : NetTotIsSum
+unfolding netAt netOn netTot
+net-tot-is-sum l a = total-tabulated (periods (l .opening)) _
+
+pub net-of-totals : NetOfTotals
+unfolding netAt netOn totalsAt totalsOn totOn
+net-of-totals l a = (
+  tot-minus (periods (l .opening)) (isRun l) (cellAt l) (sideAt l (a .allGroups) activeImport (a .category)) (sideAt l (a .allGroups) activeExport (a .category)) (a .date),
+  tot7-minus (periods (l .opening)) (isRun l) (cellAt l) (sideAt l (a .allGroups) activeImport (a .category)) (sideAt l (a .allGroups) activeExport (a .category)) (a .date),
+)
+
+-- ---- the two lists exchanged
+
+map-tabulate : (n : ℕ) (f : ℤ → ℤ) (g : ℕ → ℤ) → tabulate n (λ k. f (g k)) ≡ map f (tabulate n g)
+unfolding tabulate
+map-tabulate zero f g = refl
+map-tabulate (suc n) f g = rw (map-tabulate n f g) (sym (map-append f (tabulate n g) (g n ∷ [])))
+
+pub sides-exchanged : SidesExchanged
+unfolding netOn
+sides-exchanged periods isRun cell imports exports d = (
+  tot-swapped periods isRun cell imports exports d,
+  tot7-swapped periods isRun cell imports exports d,
+  tabulate-ext periods _ _ (λ k l. period-swapped periods isRun cell imports exports d (suc k)) ∙ map-tabulate periods negℤ _,
+  tabulate-ext periods _ _ (λ k l. mark-swapped periods isRun cell imports exports d (suc k)),
+  refl,
+)
+
+-- ---- marks
+
+flag-n : (f : Flag) → isN f ≡ true → f ≡ N
+flag-n A e = absurd (true≢false (sym e))
+flag-n D e = absurd (true≢false (sym e))
+flag-n E e = absurd (true≢false (sym e))
+flag-n N e = refl
+
+n-flag : (f : Flag) → f ≡ N → isN f ≡ true
+n-flag f e = rw e
+
+none-of : (cs : List ℕ) (f : ℕ → Flag) → anyOf cs (λ c. isN (f c)) ≡ false → Every (λ c. f c ≢ N) cs
+unfolding anyOf
+none-of [] f e = tt
+none-of (c ∷ cs) f e =
+    cases (isN (f c))
+    (λ q. absurd (true≢false (rw q at e)))
+    (λ q. (λ n. true≢false (sym (n-flag (f c) n) ∙ q), none-of cs f (rw q at e)))
+
+of-none : (cs : List ℕ) (f : ℕ → Flag) → Every (λ c. f c ≢ N) cs → anyOf cs (λ c. isN (f c)) ≡ false
+unfolding anyOf
+of-none [] f all = refl
+of-none (c ∷ cs) f all =
+    cases (isN (f c))
+    (λ q. absurd (all .0 (flag-n (f c) q)))
+    (λ q. rw q (of-none cs f (all .1)))
+
+mark-zero : (b : Bool) → _≡_ {A = ℕ} (cond b 1 0) 0 → b ≡ false
+mark-zero true e = absurd (omega arith)
+mark-zero false e = refl
+
+mark-low : (b : Bool) → cond b 1 0 ≤ 1
+mark-low true = omega arith
+mark-low false = omega arith
+
+pub mark-exact : MarkExact
+unfolding netAt netOn markOf
+mark-exact l a k h =
+    let summed = sideAt l (a .allGroups) activeImport (a .category) ++ sideAt l (a .allGroups) activeExport (a .category) in
+    let flag : ℕ → Flag = λ c. cellAt l (a .date) c (suc k) .flag in
+    rw (getD-tabulate (periods (l .opening)) _ k h) (
+      (λ e. none-of summed flag (mark-zero (anyOf summed (λ c. isN (flag c))) e), λ all. rw (of-none summed flag all)),
+      mark-low (anyOf summed (λ c. isN (flag c))),
+    )
+
+-- ---- nothing nets to zero
+
+-- on the ledger a blank cell has value 0
+carried-blank : (a : Cell) → carried a .flag ≡ N → carried a .value ≡ 0
+unfolding carried blank
+carried-blank a e =
+    (elim (a .flag) as (λ f. a .flag ≡ f → carried a .value ≡ 0) [
+      | A ↦ λ q. absurd (let w : E ≡ N = rw q at e in let z : _≡_ {A = ℕ} 0 1 = cc in omega arith)
+      | D ↦ λ q. absurd (let w : E ≡ N = rw q at e in let z : _≡_ {A = ℕ} 0 1 = cc in omega arith)
+      | E ↦ λ q. absurd (let w : E ≡ N = rw q at e in let z : _≡_ {A = ℕ} 0 1 = cc in omega arith)
+      | N ↦ λ q. rw q
+    ]) refl
+
+from-blank : (d : ℕ) (f : Fresh) (before : Cell) → cellFrom d f before .flag ≡ N → cellFrom d f before .value ≡ 0
+unfolding cellFrom
+from-blank d absent before e = carried-blank before e
+from-blank d (own v n) before e = absurd (let z : _≡_ {A = ℕ} 0 1 = cc in omega arith)
+from-blank d (pooled v n) before e = absurd (let z : _≡_ {A = ℕ} 0 1 = cc in omega arith)
+
+of-blank : (d : ℕ) (x : Day) (before : Cell) → cellOf d x before .flag ≡ N → cellOf d x before .value ≡ 0
+unfolding cellOf
+of-blank d notRun before e = (unfold blank in refl)
+of-blank d (ran f) before e = from-blank d f before e
+
+blank-value : (l : Ledger) (d c j : ℕ) → cellAt l d c j .flag ≡ N → cellAt l d c j .value ≡ 0
+unfolding cellAt cellBy cellOn
+blank-value l d c j e = of-blank d (dayOf (category (l .opening)) c j (l .pictures d)) _ e
+
+sum-blank : (cs : List ℕ) (f : ℕ → Cell) → ((c : ℕ) → f c .flag ≡ N → f c .value ≡ 0) → Every (λ c. f c .flag ≡ N) cs → sumOver cs (λ c. f c .value) ≡ 0
+unfolding sumOver
+sum-blank [] f value all = refl
+sum-blank (c ∷ cs) f value all = rw (value c (all .0), sum-blank cs f value (all .1))
+
+every-left : (P : ℕ → Type 0) (cs ds : List ℕ) → Every P (cs ++ ds) → Every P cs
+every-left P [] ds all = tt
+every-left P (c ∷ cs) ds all = (all .0, every-left P cs ds (all .1))
+
+every-right : (P : ℕ → Type 0) (cs ds : List ℕ) → Every P (cs ++ ds) → Every P ds
+every-right P [] ds all = all
+every-right P (c ∷ cs) ds all = every-right P cs ds (all .1)
+
+-- one of some is enough
+some-blank : (cs : List ℕ) (f : ℕ → Flag) → length cs ≢ 0 → Every (λ c. f c ≡ N) cs → anyOf cs (λ c. isN (f c)) ≡ true
+unfolding anyOf
+some-blank [] f some all = absurd (some refl)
+some-blank (c ∷ cs) f some all = rw (n-flag (f c) (all .0))
+
+may-net-some : (cat : ℕ → Category) (C : ℕ) (allGroups : Bool) (c : ℕ) → mayNet cat C allGroups c ≡ true →
+    (isSmart (cat c) ≡ true) × (cat c .quantity ≡ activeImport) × (length (sideOf cat C allGroups activeExport c) ≢ 0)
+unfolding mayNet
+may-net-some cat C allGroups c e =
+    let p = and-eq-true-iff _ (not (eqb (length (sideOf cat C allGroups activeExport c)) 0)) .0 e in
+    let q = and-eq-true-iff (isSmart (cat c)) (eqb (cat c .quantity) activeImport) .0 (p .0) in
+    (q .0, eqb-true _ _ (q .1), λ z. true≢false (sym (p .1) ∙ rw (eq-eqb _ _ z)))
+
+pub nothing-nets-to-zero : NothingNetsToZero
+unfolding netAt netOn netPeriod markOf
+nothing-nets-to-zero l a k h may all =
+    let imports = sideAt l (a .allGroups) activeImport (a .category) in
+    let exports = sideAt l (a .allGroups) activeExport (a .category) in
+    let cell : ℕ → Cell = λ c. cellAt l (a .date) c (suc k) in
+    let blank-cell : (c : ℕ) → cell c .flag ≡ N → cell c .value ≡ 0 = λ c. blank-value l (a .date) c (suc k) in
+    let left = sum-blank imports cell blank-cell (every-left _ imports exports all) in
+    let right = sum-blank exports cell blank-cell (every-right _ imports exports all) in
+    let some : length exports ≢ 0 = (unfold sideAt in may-net-some (category (l .opening)) (categories (l .opening)) (a .allGroups) (a .category) may .2) in
+    let one : anyOf (imports ++ exports) (λ c. isN (cell c .flag)) ≡ true =
+    anyOf-append imports exports (λ c. isN (cell c .flag)) ∙ rw (some-blank exports (λ c. cell c .flag) some (every-right _ imports exports all), or-true) in (
+      tabulate-at (periods (l .opening)) _ (pos 1) k h ∙ rw (left, right),
+      getD-tabulate (periods (l .opening)) _ k h ∙ rw one,
+    )
+
+-- ---- the first form: one category on each side
+
+chosen-none : (n : ℕ) (test : ℕ → Bool) → ((x : ℕ) → x < n → test x ≡ false) → chosenBelow n test ≡ []
+unfolding chosenBelow
+chosen-none zero test h = refl
+chosen-none (suc n) test h = rw (chosen-none n test (λ x l. h x (omega arith)), h n (omega arith))
+
+chosen-one : (n p : ℕ) (test : ℕ → Bool) → p < n → test p ≡ true → ((x : ℕ) → x < n → test x ≡ true → x ≡ p) → chosenBelow n test ≡ p ∷ []
+unfolding chosenBelow
+chosen-one zero p test h e alone = absurd (omega arith)
+chosen-one (suc n) p test h e alone =
+    cases (eqb p n)
+    (λ q.
+    let is = eqb-true p n q in
+    rw (
+      chosen-none n test (λ x l. cases (test x) (λ t. absurd (let w = alone x (omega arith) t in omega arith)) (λ t. t)),
+      ← is,
+      e,
+    ))
+    (λ q.
+    let low : p < n = (let ne = eqb-false p n q in omega arith) in
+    let out : test n ≡ false = cases (test n) (λ t. absurd (let w = alone n (omega arith) t in omega arith)) (λ t. t) in
+    rw (chosen-one n p test low e (λ x l t. alone x (omega arith) t), out))
+
+-- one of a list that is not empty
+first-of : (P : ℕ → Type 0) (cs : List ℕ) → length cs ≢ 0 → Every P cs → (c : ℕ) × P c
+first-of P [] some all = absurd (some refl)
+first-of P (c ∷ cs) some all = (c, all .0)
+
+-- two records with one key are not both accepted
+module _ (o : Opening) (short : Bool) (ok : openingCheck (o .duration) (o .meters) (o .categoryBytes) (o .dayTypes) short .number ≡ 0) where
+  no-key-twice : (i k : ℕ) → i < categories o → k < i → sameKey (o .categoryBytes) k i ≡ false
+  unfolding openingCheck categoryNumber
+  no-key-twice i k h l =
+      let later = orElse (firstFailed (dayTypeNumber (o .dayTypes)) (dates o) 0) (verdict (cond short 1 0)) in
+      let first = firstFailed (categoryNumber (o .categoryBytes)) (categories o) 0 in
+      let sizes = passed-verdict (not (sizesValid (o .duration) (o .meters) (o .categoryBytes) (o .dayTypes))) 2 (orElse first later) ok in
+      let records = passed-else first later (sizes .1) .0 in
+      let bad = not (categoryValid (recordAt (o .categoryBytes) i)) in
+      let twice = anyBelow i (λ x. sameKey (o .categoryBytes) x i) in
+      let here = first-passed (categoryNumber (o .categoryBytes)) (categories o) 0 records i h in
+      any-false i (λ x. sameKey (o .categoryBytes) x i) (neither bad twice (cond-four (bad || twice) (rw (zero-add i) at here)) .1) k l
+    where
+      cond-four : (b : Bool) → _≡_ {A = ℕ} (cond b 4 0) 0 → b ≡ false
+      cond-four true e = absurd (omega arith)
+      cond-four false e = refl
+
+  -- so the first five fields tell categories apart
+  one-below : (i k : ℕ) → i < categories o → k < i →
+      category o k .segment ≡ category o i .segment → category o k .group ≡ category o i .group → category o k .domestic ≡ category o i .domestic →
+      category o k .quantity ≡ category o i .quantity → category o k .connection ≡ category o i .connection → ⊥
+  unfolding categoryAt sameKey
+  one-below i k h l a b c d e =
+      true≢false (sym (rw (eq-eqb _ _ a, eq-eqb _ _ b, eq-eqb _ _ c, eq-eqb _ _ d, eq-eqb _ _ e)) ∙ no-key-twice i k h l)
+
+  pub one-of-a-key : (x y : ℕ) → x < categories o → y < categories o →
+      category o x .segment ≡ category o y .segment → category o x .group ≡ category o y .group → category o x .domestic ≡ category o y .domestic →
+      category o x .quantity ≡ category o y .quantity → category o x .connection ≡ category o y .connection → x ≡ y
+  one-of-a-key x y hx hy a b c d e =
+      cases (ltb x y)
+      (λ q. absurd (one-below y x hy (ltb-true x y q) a b c d e))
+      (λ q.
+      cases (ltb y x)
+      (λ r. absurd (one-below x y hx (ltb-true y x r) (sym a) (sym b) (sym c) (sym d) (sym e)))
+      (λ r. let m = ltb-false x y q in let n = ltb-false y x r in omega arith))
+
+  -- two on one side of an own-group net are one
+  one-on-side : (quantity c x y : ℕ) → x < categories o → y < categories o →
+      OnSide false quantity (category o c) (category o x) → OnSide false quantity (category o c) (category o y) → x ≡ y
+  one-on-side quantity c x y hx hy a b =
+      one-of-a-key x y hx hy (a .smart .1 ∙ sym (b .smart .1)) (a .same-group refl ∙ sym (b .same-group refl)) (a .same-domestic ∙ sym (b .same-domestic))
+      (a .same-quantity ∙ sym (b .same-quantity))
+      (a .same-connection ∙ sym (b .same-connection))
+
+  side-of-one : (quantity c p : ℕ) → p < categories o → OnSide false quantity (category o c) (category o p) → sideOf (category o) (categories o) false quantity c ≡ p ∷ []
+  unfolding sideOf
+  side-of-one quantity c p h a =
+      chosen-one (categories o) p _ h (from-side false quantity (category o c) (category o p) a)
+      (λ x l t. one-on-side quantity c x p l h (to-side false quantity (category o c) (category o x) t) a)
+
+pub own-group-pair : OwnGroupPair
+unfolding sideAt sideOf isSmart
+own-group-pair l short c ok h may =
+    let o = l .opening in
+    let facts = may-net-some (category o) (categories o) false c may in
+    let smart : category o c .segment ≡ 1 = eqb-true _ _ (facts .0) in
+    let found = first-of _ (sideOf (category o) (categories o) false activeExport c) (facts .2) (chosen-pass (categories o) _) in
+    let partner = to-side false activeExport (category o c) (category o (found .0)) (found .1 .1) in
+    let itself : OnSide false activeImport (category o c) (category o c) =
+    record { smart = (smart, smart); same-quantity = facts .1; same-domestic = refl; same-connection = refl; same-group = λ _. refl } in
+    (found .0, found .1 .0, partner, side-of-one o short ok activeImport c c h itself, side-of-one o short ok activeExport c (found .0) (found .1 .0) partner)

@@ -1,0 +1,26 @@
+// The command program with parts for 12 categories, 12 meters and 12 dates of 48 periods. Behind its answers it writes all nets of the store that the commands left.
+mod nets;
+mod show;
+
+fn main() {
+    let mut category_records = [0u8; 96];
+    let mut day_types = [0u8; 12];
+    let mut settings = [0u8; 116];
+    let mut meters = [0u64; 492];
+    let mut readings = [0u64; 7056];
+    let mut cells = [0u64; 6912];
+    console::converse(
+        &mut category_records,
+        &mut day_types,
+        &mut settings,
+        &mut meters,
+        &mut readings,
+        &mut cells,
+        12,
+        576,
+    );
+    nets::all_nets(&settings, &cells, false);
+    nets::all_nets(&settings, &cells, true);
+    nets::other_lengths(&settings, &cells);
+    nets::without_the_last_cell(&settings, &cells);
+}
