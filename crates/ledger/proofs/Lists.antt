@@ -56,7 +56,7 @@ module _ {A : Type 0} where
   length-tabulate zero f = refl
   length-tabulate (suc n) f = length-append (tabulate n f) (f n ∷ []) ∙ rw (length-tabulate n f) (add-one n)
 
-  pub tabulate-suc : (n : ℕ) (f : ℕ → A) → tabulate (suc n) f ≡ tabulate n f ++ (f n ∷ [])
+  tabulate-suc : (n : ℕ) (f : ℕ → A) → tabulate (suc n) f ≡ tabulate n f ++ (f n ∷ [])
   unfolding tabulate
   tabulate-suc n f = refl
 
@@ -75,7 +75,7 @@ module _ {A : Type 0} where
   unfolding filling
   filling-length f xs k h = rw (length-append, length-tabulate, length-drop) (omega arith)
 
-  pub filling-next : (f : ℕ → A) (xs : List A) (k : ℕ) → k < length xs → set (filling k f xs) k (f k) ≡ filling (suc k) f xs
+  filling-next : (f : ℕ → A) (xs : List A) (k : ℕ) → k < length xs → set (filling k f xs) k (f k) ≡ filling (suc k) f xs
   unfolding filling
   filling-next f xs k h =
       rw (drop-cons xs k (f k) h, tabulate-suc k f)

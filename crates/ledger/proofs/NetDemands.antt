@@ -1,22 +1,22 @@
 -- What is promised of net reads.
-use Prim.Native.Nat.{ℕ, zero, suc, _+_, _*_, _/_, _≤_, _<_}
+use Prim.Native.Nat.{ℕ, zero, suc, _+_, _≤_, _<_}
 use mathlib.Core.Path.{_≡_, refl, sym, ap, _∙_}
-use mathlib.Core.Logic.{_≢_, ⊎-elim}
-use mathlib.Core.Bool.{Bool, true, false, not, _&&_, _||_, cond, and-eq-true-iff, or-true, true≢false}
+use mathlib.Core.Logic.{_≢_}
+use mathlib.Core.Bool.{Bool, true, false, not, _||_, cond, and-eq-true-iff, or-true, true≢false}
 use mathlib.Core.List.{List, [], _∷_, _++_, map, map-append}
 use native.Mathlib.Omega.{arith}
 use native.Mathlib.Nat.{zero-add, add-zero}
 use lib.Dec.{eqb, ltb}
-use lib.ListN.{length, getD, length-append}
-use lib.IntN.{ℤ, pos, negℤ, _+ℤ_, _-ℤ_, +ℤ-assoc, +ℤ-idl, +ℤ-idr}
+use lib.ListN.{length, getD}
+use lib.IntN.{ℤ, pos, negℤ, _+ℤ_, +ℤ-assoc, +ℤ-idl, +ℤ-idr}
 use borrow.Table.Steps.{cases}
 use borrow.Author.Tests.{eq-eqb, eqb-true, eqb-false, ltb-true, ltb-false}
 use Rattle.metering.specs.Sum.{sumBelow}
 use Rattle.metering.specs.Range.{categoryValid}
-use Rattle.ledger.specs.Method.{Category, categoryAt, isSmart, sameFamily, Flag, A, D, E, N, Cell, Fresh, absent, own, pooled, blank, carried, cellFrom, Day, notRun, ran, latest, cellOf, cellOn, totOn, totalsOn}
+use Rattle.ledger.specs.Method.{Category, categoryAt, isSmart, sameFamily, Flag, A, D, E, N, Cell, Fresh, absent, own, pooled, blank, carried, cellFrom, Day, notRun, ran, cellOf, cellOn, totOn, totalsOn}
 use Rattle.ledger.specs.Table.{tabulate}
-use Rattle.ledger.specs.Net.{activeImport, activeExport, withQuantity, onSide, chosenBelow, sideOf, sumOver, anyOf, signedSum, isN, netPeriod, markOf, netTot, netTot7, netOn}
-use Rattle.ledger.specs.Checks.{anyBelow, firstFailed, verdict, recordAt, sameKey, categoryNumber, dayTypeNumber, sizesValid, openingCheck, orElse, mayNet, NetCall}
+use Rattle.ledger.specs.Net.{activeImport, activeExport, onSide, chosenBelow, sideOf, sumOver, anyOf, signedSum, isN, netPeriod, markOf, netTot, netOn}
+use Rattle.ledger.specs.Checks.{anyBelow, firstFailed, verdict, recordAt, sameKey, categoryNumber, dayTypeNumber, sizesValid, openingCheck, orElse, mayNet}
 use Rattle.ledger.specs.Ledger.{Opening, categories, dates, periods, category, dayType, Ledger, cellBy, cellAt, isRun, dayOf, totalsAt, sideAt, netAt}
 use Rattle.ledger.specs.Engine.{Every}
 use Rattle.ledger.specs.Demands.{OnSide, SideExact, OwnGroupPair, signedTotal, NetTotIsSum, NetOfTotals, MarkExact, NothingNetsToZero, SidesExchanged}
@@ -288,7 +288,7 @@ module _ (o : Opening) (short : Bool) (ok : openingCheck (o .duration) (o .meter
   one-below i k h l a b c d e =
       true≢false (sym (rw (eq-eqb _ _ a, eq-eqb _ _ b, eq-eqb _ _ c, eq-eqb _ _ d, eq-eqb _ _ e)) ∙ no-key-twice i k h l)
 
-  pub one-of-a-key : (x y : ℕ) → x < categories o → y < categories o →
+  one-of-a-key : (x y : ℕ) → x < categories o → y < categories o →
       category o x .segment ≡ category o y .segment → category o x .group ≡ category o y .group → category o x .domestic ≡ category o y .domestic →
       category o x .quantity ≡ category o y .quantity → category o x .connection ≡ category o y .connection → x ≡ y
   one-of-a-key x y hx hy a b c d e =

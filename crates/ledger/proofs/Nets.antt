@@ -1,18 +1,17 @@
 -- Laws of nets (change request 2026-13): sums over lists of categories, differences of sums, and what two readers of the same cells find.
 use Prim.Native.Nat.{ℕ, zero, suc, _+_, _-_, _≤_, _<_}
 use mathlib.Core.Path.{_≡_, refl, sym, ap, ap₂, _∙_}
-use mathlib.Core.Bool.{Bool, true, false, not, _&&_, _||_, cond}
+use mathlib.Core.Bool.{Bool, true, false, _&&_, _||_, cond}
 use mathlib.Core.List.{List, [], _∷_, _++_}
 use native.Mathlib.Omega.{arith}
-use native.Mathlib.Nat.{zero-add, add-zero}
+use native.Mathlib.Nat.{zero-add}
 use lib.Dec.{leb}
-use lib.ListN.{length}
 use lib.IntN.{ℤ, pos, negℤ, _+ℤ_, _-ℤ_, +ℤ-assoc, +ℤ-comm, negℤ-+ℤ, negℤ-negℤ}
 use borrow.Table.Steps.{cases}
 use Rattle.metering.specs.Sum.{sumBelow}
 use Rattle.ledger.specs.Method.{Cell, overRunDates}
 use Rattle.ledger.specs.Table.{tabulate}
-use Rattle.ledger.specs.Net.{chosenBelow, sumOver, anyOf, signedSum, isN, Net, netPeriod, markOf, netTot, netTot7, netOn}
+use Rattle.ledger.specs.Net.{chosenBelow, sumOver, anyOf, signedSum, isN, netPeriod, markOf, netTot, netTot7, netOn}
 use Rattle.ledger.specs.Engine.{Every}
 use Rattle.ledger.proofs.Lists.{sumBelow-cong, sumBelow-none, sumBelow-plus, tabulate-ext}
 
@@ -25,15 +24,15 @@ cross a b c d =
     ∙ sym (+ℤ-assoc a c (b +ℤ d))
 
 -- the sum of differences is the difference of sums
-pub minus-plus : (a b c d : ℕ) → (pos a -ℤ pos b) +ℤ (pos c -ℤ pos d) ≡ pos (a + c) -ℤ pos (b + d)
+minus-plus : (a b c d : ℕ) → (pos a -ℤ pos b) +ℤ (pos c -ℤ pos d) ≡ pos (a + c) -ℤ pos (b + d)
 minus-plus a b c d =
     cross (pos a) (negℤ (pos b)) (pos c) (negℤ (pos d)) ∙ ap (λ x. pos (a + c) +ℤ x) (sym (negℤ-+ℤ (pos b) (pos d)))
 
-pub minus-swapped : (a b : ℕ) → pos b -ℤ pos a ≡ negℤ (pos a -ℤ pos b)
+minus-swapped : (a b : ℕ) → pos b -ℤ pos a ≡ negℤ (pos a -ℤ pos b)
 minus-swapped a b =
     sym (negℤ-+ℤ (pos a) (negℤ (pos b)) ∙ ap (λ x. negℤ (pos a) +ℤ x) (negℤ-negℤ (pos b)) ∙ +ℤ-comm (negℤ (pos a)) (pos b))
 
-pub signed-cong : (n : ℕ) (f g : ℕ → ℤ) → ((k : ℕ) → k < n → f k ≡ g k) → signedSum n f ≡ signedSum n g
+signed-cong : (n : ℕ) (f g : ℕ → ℤ) → ((k : ℕ) → k < n → f k ≡ g k) → signedSum n f ≡ signedSum n g
 unfolding signedSum
 signed-cong zero f g h = refl
 signed-cong (suc n) f g h = ap₂ (λ x y. x +ℤ y) (signed-cong n f g (λ k l. h k (omega arith))) (h n (omega arith))
@@ -44,7 +43,7 @@ signed-minus zero f g = refl
 signed-minus (suc n) f g =
     ap (λ x. x +ℤ (pos (f n) -ℤ pos (g n))) (signed-minus n f g) ∙ minus-plus (sumBelow n f) (sumBelow n g) (f n) (g n)
 
-pub signed-neg : (n : ℕ) (f : ℕ → ℤ) → signedSum n (λ k. negℤ (f k)) ≡ negℤ (signedSum n f)
+signed-neg : (n : ℕ) (f : ℕ → ℤ) → signedSum n (λ k. negℤ (f k)) ≡ negℤ (signedSum n f)
 unfolding signedSum
 signed-neg zero f = refl
 signed-neg (suc n) f = ap (λ x. x +ℤ negℤ (f n)) (signed-neg n f) ∙ sym (negℤ-+ℤ (signedSum n f) (f n))
@@ -56,7 +55,7 @@ unfolding sumOver
 sumOver-append [] ds f = sym (zero-add (sumOver ds f))
 sumOver-append (c ∷ cs) ds f = let h = sumOver-append cs ds f in omega arith
 
-pub sumOver-cong : (cs : List ℕ) (f g : ℕ → ℕ) (P : ℕ → Type 0) → Every P cs → ((c : ℕ) → P c → f c ≡ g c) → sumOver cs f ≡ sumOver cs g
+sumOver-cong : (cs : List ℕ) (f g : ℕ → ℕ) (P : ℕ → Type 0) → Every P cs → ((c : ℕ) → P c → f c ≡ g c) → sumOver cs f ≡ sumOver cs g
 unfolding sumOver
 sumOver-cong [] f g P all h = refl
 sumOver-cong (c ∷ cs) f g P all h = rw (h c (all .0), sumOver-cong cs f g P (all .1) h)
@@ -91,14 +90,14 @@ unfolding anyOf
 anyOf-append [] ds f = refl
 anyOf-append (c ∷ cs) ds f = cases (f c) (λ q. rw q) (λ q. rw q (anyOf-append cs ds f))
 
-pub anyOf-cong : (cs : List ℕ) (f g : ℕ → Bool) (P : ℕ → Type 0) → Every P cs → ((c : ℕ) → P c → f c ≡ g c) → anyOf cs f ≡ anyOf cs g
+anyOf-cong : (cs : List ℕ) (f g : ℕ → Bool) (P : ℕ → Type 0) → Every P cs → ((c : ℕ) → P c → f c ≡ g c) → anyOf cs f ≡ anyOf cs g
 unfolding anyOf
 anyOf-cong [] f g P all h = refl
 anyOf-cong (c ∷ cs) f g P all h = rw (h c (all .0), anyOf-cong cs f g P (all .1) h)
 
 -- ---- chosen numbers
 
-pub every-append : (P : ℕ → Type 0) (cs ds : List ℕ) → Every P cs → Every P ds → Every P (cs ++ ds)
+every-append : (P : ℕ → Type 0) (cs ds : List ℕ) → Every P cs → Every P ds → Every P (cs ++ ds)
 every-append P [] ds a b = b
 every-append P (c ∷ cs) ds a b = (a .0, every-append P cs ds (a .1) b)
 

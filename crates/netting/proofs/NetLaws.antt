@@ -1,26 +1,26 @@
 -- The sums that the code takes are those of the net.
-use Prim.Native.Nat.{ℕ, zero, suc, _+_, _-_, _*_, _≤_, _<_}
+use Prim.Native.Nat.{ℕ, zero, suc, _+_, _-_, _*_, _≤_}
 use mathlib.Core.Path.{_≡_, refl, sym, ap, ap₂, _∙_}
-use mathlib.Core.Bool.{Bool, true, false, not, _&&_, _||_, cond}
+use mathlib.Core.Bool.{Bool, true, false, _&&_, cond}
 use mathlib.Core.List.{List, [], _∷_, _++_}
 use native.Mathlib.Omega.{arith}
-use native.Mathlib.Nat.{zero-add, sub-zero, suc-mul, mul-le-mul-right}
+use native.Mathlib.Nat.{zero-add, sub-zero}
 use borrow.Table.Steps.{cases}
 use borrow.Author.Tests.{ne-eqb, le-leb, lt-leb, leb-true, leb-false}
 use lib.Dec.{leb, eqb}
 use lib.IntN.{ℤ, pos, _-ℤ_}
-use lib.ListN.{length, getD, take, drop}
+use lib.ListN.{length, getD}
 use Rattle.metering.specs.Sum.{sumBelow, sumBelow-zero, sumBelow-suc}
-use Rattle.ledger.specs.Method.{Flag, A, D, E, N, Cell, isBlank, overRunDates}
+use Rattle.ledger.specs.Method.{Flag, A, D, E, N, isBlank, overRunDates}
 use Rattle.ledger.specs.Table.{tabulate, filling}
 use Rattle.ledger.specs.Net.{sumOver, anyOf, isN, Net, netPeriod, markOf, netTot, netTot7, netOn}
-use Rattle.ledger.specs.Store.{categoriesOf, datesOf, periodsOf, rowOf, cellOfEntry, cellIndex, isRunAt, settingsReady, cellsReady}
+use Rattle.ledger.specs.Store.{categoriesOf, periodsOf, rowOf, cellOfEntry, cellIndex, isRunAt}
 use Rattle.ledger.specs.Calls.{cellFor, overwritten}
 use Rattle.ledger.proofs.Lists.{length-tabulate, tabulate-ext, sumBelow-more, sumBelow-none, sumBelow-cong, block-below}
 use Rattle.ledger.proofs.Nets.{signed-minus, sumOver-append, sumOver-alike, sumOver-plus, sum-exchange, totOf, tot7-minus}
 use Rattle.reports.specs.Sums.{Summed}
 use Rattle.reports.proofs.SumLaws.{sum-alike}
-use Rattle.netting.specs.Walk.{Among, RowReach, SummedFirst, DayWritten, NetWritten, cellBeyond, valueBeyond, sideValue, sideBlanks, periodNet, periodMark, earlierTot}
+use Rattle.netting.specs.Walk.{Among, RowReach, SummedFirst, DayWritten, NetWritten, cellBeyond, sideValue, sideBlanks, periodNet, periodMark, earlierTot}
 
 -- ---- marks
 

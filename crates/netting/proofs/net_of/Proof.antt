@@ -6,7 +6,6 @@ use borrow.Author.Needs.{needs}
 use Rattle.ledger.specs.Store.{periodsOf}
 use Rattle.ledger.specs.Ready.{ready, periods-bound}
 use Rattle.reports.proofs.CheckLaws.{row-within}
-use Rattle.netting.proofs.SideLaws.{as-figure}
 use Rattle.netting.proofs.SignedLaws.{difference-back}
 use Rattle.netting.proofs.NetLaws.{row-reach, day-small, week-small, net-written}
 use Rattle.netting.proofs.net_of.Statement.{statement}

@@ -1,6 +1,6 @@
 -- `netting::periods::side_sum` meets its contract. The invariant: both sums are over the members passed. Assumes nothing.
 use Prim.Native.Nat.{_≤_, _-_}
-use mathlib.Core.Path.{_∙_, ap, sym}
+use mathlib.Core.Path.{_∙_, ap}
 use native.Mathlib.Omega.{arith}
 use borrow.Author.Needs.{needs}
 use Rattle.ledger.specs.Method.{isBlank}

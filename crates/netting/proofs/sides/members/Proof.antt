@@ -1,10 +1,8 @@
 -- `netting::sides::members` meets its contract. The invariant: those found so far are the ones chosen below the category reached. Assumes nothing.
 use Prim.Native.Nat.{_≤_, _-_}
-use mathlib.Core.Path.{_≡_, refl, _∙_}
 use native.Mathlib.Omega.{arith}
-use native.Mathlib.Numerals.{add-one}
 use Rattle.ledger.specs.Net.{onSide, chosenBelow, sideOf}
-use Rattle.ledger.specs.Store.{categoriesOf, categoryOf}
+use Rattle.ledger.specs.Store.{categoryOf}
 use Rattle.ledger.specs.Calls.{sideFor}
 use Rattle.ledger.specs.Ready.{ready}
 use Rattle.netting.specs.Sides.{Listed}
