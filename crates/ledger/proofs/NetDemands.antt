@@ -1,6 +1,6 @@
 -- What is promised of net reads.
 use Prim.Native.Nat.{ℕ, zero, suc, _+_, _≤_, _<_}
-use mathlib.Core.Path.{_≡_, refl, sym, ap, _∙_}
+use mathlib.Core.Path.{_≡_, refl, sym, ap, ap₂, _∙_}
 use mathlib.Core.Logic.{_≢_}
 use mathlib.Core.Bool.{Bool, true, false, not, _||_, cond, and-eq-true-iff, or-true, true≢false}
 use mathlib.Core.List.{List, [], _∷_, _++_, map, map-append}
@@ -8,7 +8,7 @@ use native.Mathlib.Omega.{arith}
 use native.Mathlib.Nat.{zero-add, add-zero}
 use lib.Dec.{eqb, ltb}
 use lib.ListN.{length, getD}
-use lib.IntN.{ℤ, pos, negℤ, _+ℤ_, +ℤ-assoc, +ℤ-idl, +ℤ-idr}
+use lib.IntN.{ℤ, pos, negℤ, _+ℤ_, _-ℤ_, +ℤ-assoc, +ℤ-idl, +ℤ-idr}
 use borrow.Table.Steps.{cases}
 use borrow.Author.Tests.{eq-eqb, eqb-true, eqb-false, ltb-true, ltb-false}
 use Rattle.metering.specs.Sum.{sumBelow}
@@ -19,13 +19,13 @@ use Rattle.ledger.specs.Net.{activeImport, activeExport, onSide, chosenB
 use Rattle.ledger.specs.Checks.{anyBelow, firstFailed, verdict, recordAt, sameKey, categoryNumber, dayTypeNumber, sizesValid, openingCheck, orElse, mayNet}
 use Rattle.ledger.specs.Ledger.{Opening, categories, dates, periods, category, dayType, Ledger, cellBy, cellAt, isRun, dayOf, totalsAt, sideAt, netAt}
 use Rattle.ledger.specs.Engine.{Every}
-use Rattle.ledger.specs.Demands.{OnSide, SideExact, OwnGroupPair, signedTotal, NetTotIsSum, NetOfTotals, MarkExact, NothingNetsToZero, SidesExchanged}
+use Rattle.ledger.specs.Demands.{OnSide, SideExact, OwnGroupPair, signedTotal, NetTotIsSum, NetOfTotals, OwnGroupNetOfTotals, MarkExact, NothingNetsToZero, SidesExchanged}
 use Rattle.ledger.proofs.Choices.{passed-verdict, neither}
 use Rattle.ledger.proofs.Receive.{first-passed}
 use Rattle.ledger.proofs.Open.{passed-else}
 use Rattle.ledger.proofs.Demands.{any-false}
 use Rattle.ledger.proofs.Lists.{tabulate-at, getD-tabulate, tabulate-ext}
-use Rattle.ledger.proofs.Nets.{sumOver-append, chosen-pass, anyOf-append, tot-minus, tot7-minus, period-swapped, tot-swapped, tot7-swapped, mark-swapped}
+use Rattle.ledger.proofs.Nets.{sumOver-append, sumOver-one, chosen-pass, anyOf-append, tot-minus, tot7-minus, period-swapped, tot-swapped, tot7-swapped, mark-swapped}
 
 -- ---- sides
 
@@ -324,3 +324,15 @@ own-group-pair l short c ok h may =
     let itself : OnSide false activeImport (category o c) (category o c) =
     record { smart = (smart, smart); same-quantity = facts .1; same-domestic = refl; same-connection = refl; same-group = λ _. refl } in
     (found .0, found .1 .0, partner, side-of-one o short ok activeImport c c h itself, side-of-one o short ok activeExport c (found .0) (found .1 .0) partner)
+
+pub own-group-net-of-totals : OwnGroupNetOfTotals
+own-group-net-of-totals l short a ok form h may =
+    let pair = own-group-pair l short (a .category) ok h may in
+    let imports : sideAt l (a .allGroups) activeImport (a .category) ≡ a .category ∷ [] = rw form (pair .3) in
+    let exports : sideAt l (a .allGroups) activeExport (a .category) ≡ pair .0 ∷ [] = rw form (pair .4) in
+    let net = rw (imports, exports) at (net-of-totals l a) in (
+      pair .0,
+      pair .2,
+      net .0 ∙ ap₂ (λ x y. pos x -ℤ pos y) (sumOver-one (a .category) _) (sumOver-one (pair .0) _),
+      net .1 ∙ ap₂ (λ x y. pos x -ℤ pos y) (sumOver-one (a .category) _) (sumOver-one (pair .0) _),
+    )

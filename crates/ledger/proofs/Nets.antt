@@ -4,7 +4,7 @@ use mathlib.Core.Path.{_≡_, refl, sym, ap, ap₂, _∙_}
 use mathlib.Core.Bool.{Bool, true, false, _&&_, _||_, cond}
 use mathlib.Core.List.{List, [], _∷_, _++_}
 use native.Mathlib.Omega.{arith}
-use native.Mathlib.Nat.{zero-add}
+use native.Mathlib.Nat.{zero-add, add-zero}
 use lib.Dec.{leb}
 use lib.IntN.{ℤ, pos, negℤ, _+ℤ_, _-ℤ_, +ℤ-assoc, +ℤ-comm, negℤ-+ℤ, negℤ-negℤ}
 use borrow.Table.Steps.{cases}
@@ -64,6 +64,10 @@ pub sumOver-none : (cs : List ℕ) → sumOver cs (λ c. 0) ≡ 0
 unfolding sumOver
 sumOver-none [] = refl
 sumOver-none (c ∷ cs) = rw (sumOver-none cs)
+
+pub sumOver-one : (c : ℕ) (f : ℕ → ℕ) → sumOver (c ∷ []) f ≡ f c
+unfolding sumOver
+sumOver-one c f = add-zero (f c)
 
 pub sumOver-plus : (cs : List ℕ) (f g : ℕ → ℕ) → sumOver cs (λ c. f c + g c) ≡ sumOver cs f + sumOver cs g
 unfolding sumOver

@@ -127,6 +127,18 @@ NetOfTotals =
     (netAt l a .tot ≡ pos (sumOver imports (λ c. totalsAt l (a .date) c .tot)) -ℤ pos (sumOver exports (λ c. totalsAt l (a .date) c .tot)))
     × (netAt l a .tot7 ≡ pos (sumOver imports (λ c. totalsAt l (a .date) c .tot7)) -ℤ pos (sumOver exports (λ c. totalsAt l (a .date) c .tot7)))
 
+-- so in the first form they are those of the category asked for less those of its partner
+abbrev pub OwnGroupNetOfTotals : Type 0
+OwnGroupNetOfTotals =
+    (l : Ledger) (short : Bool) (a : NetCall) →
+    openingCheck (l .opening .duration) (l .opening .meters) (l .opening .categoryBytes) (l .opening .dayTypes) short .number ≡ 0 →
+    a .allGroups ≡ false →
+    a .category < categories (l .opening) →
+    mayNet (category (l .opening)) (categories (l .opening)) false (a .category) ≡ true →
+    (p : ℕ) × OnSide false activeExport (category (l .opening) (a .category)) (category (l .opening) p)
+    × (netAt l a .tot ≡ pos (totalsAt l (a .date) (a .category) .tot) -ℤ pos (totalsAt l (a .date) p .tot))
+    × (netAt l a .tot7 ≡ pos (totalsAt l (a .date) (a .category) .tot7) -ℤ pos (totalsAt l (a .date) p .tot7))
+
 -- a mark is 0 exactly where none of the cells summed for the period is N, and else 1
 abbrev pub MarkExact : Type 0
 MarkExact =

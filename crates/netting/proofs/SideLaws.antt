@@ -5,14 +5,14 @@ use mathlib.Core.Bool.{Bool, true, false, cond, true≢false}
 use lib.Dec.{eqb}
 use mathlib.Core.List.{List, [], _∷_, _++_, append-nil}
 use native.Mathlib.Omega.{arith}
-use native.Mathlib.Nat.{add-zero, mul-suc, mul-le-mul-left}
+use native.Mathlib.Nat.{mul-suc, mul-le-mul-left}
 use native.Mathlib.Numerals.{add-one}
 use lib.ListN.{length, getD, set, take, length-append, length-set}
 use lib.Seq.{take-suc, take-suc-set, length-take-le}
 use borrow.Table.Steps.{cases}
 use Rattle.ledger.specs.Net.{sumOver, chosenBelow}
 use Rattle.ledger.specs.Method.{overRunDates}
-use Rattle.ledger.proofs.Nets.{sumOver-append, sumOver-none}
+use Rattle.ledger.proofs.Nets.{sumOver-append, sumOver-one, sumOver-none}
 use borrow.Author.Tests.{eq-eqb, ne-eqb}
 use Rattle.reports.specs.Sums.{Figure}
 use Rattle.reports.specs.Column.{totIn, runIn, Within}
@@ -26,15 +26,11 @@ pub none-first : (members : List ℕ) (bound : ℕ) (f : ℕ → ℕ) → Summed
 unfolding sumOver
 none-first members bound f = record { is = refl; small = omega arith }
 
-sum-one : (c : ℕ) (f : ℕ → ℕ) → sumOver (c ∷ []) f ≡ f c
-unfolding sumOver
-sum-one c f = add-zero (f c)
-
 pub one-further : {members : List ℕ} {n bound v r : ℕ} {f : ℕ → ℕ} → SummedFirst members n bound f r → n < length members → Figure bound (f (getD members n 0)) v →
     SummedFirst members (n + 1) bound f (r + v)
 one-further {members} {n} {bound} {v} {r} {f} so-far low next =
     record {
-      is = rw (add-one, take-suc members n 0 low, sumOver-append, sum-one, so-far .is, next .is);
+      is = rw (add-one, take-suc members n 0 low, sumOver-append, sumOver-one, so-far .is, next .is);
       small = rw (add-one, mul-suc) (omega arith);
     }
 

@@ -1,4 +1,5 @@
 // The checks of a net read, each part as the number of its refusal: 0 says that it passed.
+use crate::sides::ACTIVE_IMPORT;
 use reports::checks::first_failed;
 use reports::checks::run_number;
 use store::category::is_smart;
@@ -69,7 +70,7 @@ fn partner_number(settings: &[u8], category: u64, exports: u64) -> u64
     if !is_smart(settings, category) {
         return 26;
     }
-    if quantity(settings, category) != 1 {
+    if quantity(settings, category) != ACTIVE_IMPORT {
         return 26;
     }
     if exports == 0 {

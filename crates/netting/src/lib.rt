@@ -1,8 +1,10 @@
-// The net read (change request 2026-13): import less export, for each period of a date, for the date and for its week.
+// The net read (change request 2026-13): import less export, for each period of a date, for the date and for its week. Both sides are found before a cell is read.
 use crate::checks::pair_number;
 use crate::checks::range_number;
 use crate::periods::difference;
 use crate::periods::write_periods;
+use crate::sides::ACTIVE_EXPORT;
+use crate::sides::ACTIVE_IMPORT;
 use crate::sides::members;
 use crate::week::earlier_sum;
 use store::settings::category_count;
@@ -60,7 +62,7 @@ pub fn read_net(
         };
     }
     let mut exports = [0u64; 64];
-    let export_count = members(settings, all_groups, 2, category, &mut exports);
+    let export_count = members(settings, all_groups, ACTIVE_EXPORT, category, &mut exports);
     let pair_failed = pair_number(settings, cells, date, category, export_count);
     if pair_failed != 0 {
         return NetOutcome::Refused {
@@ -69,7 +71,7 @@ pub fn read_net(
         };
     }
     let mut imports = [0u64; 64];
-    let import_count = members(settings, all_groups, 1, category, &mut imports);
+    let import_count = members(settings, all_groups, ACTIVE_IMPORT, category, &mut imports);
     NetOutcome::Net(net_of(
         settings,
         cells,

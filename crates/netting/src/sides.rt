@@ -10,6 +10,11 @@ ghost use Rattle.ledger.specs.Store.{categoriesOf, settingsReady};
 ghost use Rattle.ledger.specs.Calls.{sideFor};
 ghost use Rattle.netting.specs.Sides.{Listed};
 
+// A category record's quantities.
+pub const ACTIVE_IMPORT: u64 = 1;
+
+pub const ACTIVE_EXPORT: u64 = 2;
+
 // A chosen category goes behind the first `count`; the answer is how many there are then.
 fn with_member(found: &mut [u64; 64], count: u64, chosen: bool, category: u64) -> u64
     requires { ⌜ (count < 64) × (length (now found) ≡ 64) ⌝ }
