@@ -134,29 +134,29 @@ module _ (s cells : List ℕ) (d : ℕ) where
       ∙ sumOver-alike side (λ c. over-first (isRunAt (rowOf s) cells) 6 (totOf (periodsOf s) (cellFor s cells) c) d r))
 
   module _ (imports exports : List ℕ) where
-    week-is : (import export before sold : ℕ) → isRunAt (rowOf s) cells d ≡ true →
+    week-is : (import export import-before export-before : ℕ) → isRunAt (rowOf s) cells d ≡ true →
         import ≡ sumBelow (periodsOf s) (sideValue cells (d * (categoriesOf s * periodsOf s)) (periodsOf s) imports) →
         export ≡ sumBelow (periodsOf s) (sideValue cells (d * (categoriesOf s * periodsOf s)) (periodsOf s) exports) →
-        before ≡ sumOver imports (earlierTot cells (categoriesOf s) (periodsOf s) d) →
-        sold ≡ sumOver exports (earlierTot cells (categoriesOf s) (periodsOf s) d) →
-        pos (import + before) -ℤ pos (export + sold) ≡ netTot7 (periodsOf s) (isRunAt (rowOf s) cells) (cellFor s cells) imports exports d
-    week-is import export before sold r i e b o =
-        ap₂ (λ x y. pos x -ℤ pos y) (side-week imports import before r i b) (side-week exports export sold r e o)
+        import-before ≡ sumOver imports (earlierTot cells (categoriesOf s) (periodsOf s) d) →
+        export-before ≡ sumOver exports (earlierTot cells (categoriesOf s) (periodsOf s) d) →
+        pos (import + import-before) -ℤ pos (export + export-before) ≡ netTot7 (periodsOf s) (isRunAt (rowOf s) cells) (cellFor s cells) imports exports d
+    week-is import export import-before export-before r i e b o =
+        ap₂ (λ x y. pos x -ℤ pos y) (side-week imports import import-before r i b) (side-week exports export export-before r e o)
         ∙ sym (tot7-minus (periodsOf s) (isRunAt (rowOf s) cells) (cellFor s cells) imports exports d)
 
     -- so what was written and summed is the net
-    pub net-written : (numbers numbers′ : List ℤ) (marks marks′ : List ℕ) (import export before sold : ℕ) (tot tot7 : ℤ) → isRunAt (rowOf s) cells d ≡ true →
+    pub net-written : (numbers numbers′ : List ℤ) (marks marks′ : List ℕ) (import export import-before export-before : ℕ) (tot tot7 : ℤ) → isRunAt (rowOf s) cells d ≡ true →
         DayWritten cells (d * (categoriesOf s * periodsOf s)) (periodsOf s) imports exports numbers numbers′ marks marks′ import export →
-        before ≡ sumOver imports (earlierTot cells (categoriesOf s) (periodsOf s) d) →
-        sold ≡ sumOver exports (earlierTot cells (categoriesOf s) (periodsOf s) d) →
+        import-before ≡ sumOver imports (earlierTot cells (categoriesOf s) (periodsOf s) d) →
+        export-before ≡ sumOver exports (earlierTot cells (categoriesOf s) (periodsOf s) d) →
         tot ≡ pos import -ℤ pos export →
-        tot7 ≡ pos (import + before) -ℤ pos (export + sold) →
+        tot7 ≡ pos (import + import-before) -ℤ pos (export + export-before) →
         NetWritten (netOn (periodsOf s) (isRunAt (rowOf s) cells) (cellFor s cells) imports exports d) tot tot7 numbers numbers′ marks marks′
     unfolding netOn
-    net-written numbers numbers′ marks marks′ import export before sold tot tot7 r day b o t t7 =
+    net-written numbers numbers′ marks marks′ import export import-before export-before tot tot7 r day b o t t7 =
         record {
-          day = t ∙ day-is imports exports import export (day .bought .is) (day .sold .is);
-          week = t7 ∙ week-is import export before sold r (day .bought .is) (day .sold .is) b o;
-          nets = written-is (periodsOf s) _ _ numbers numbers′ (day .nets) (net-is imports exports);
-          flags = written-is (periodsOf s) _ _ marks marks′ (day .flags) (mark-is imports exports);
+          day = t ∙ day-is imports exports import export (day .imported .is) (day .exported .is);
+          week = t7 ∙ week-is import export import-before export-before r (day .imported .is) (day .exported .is) b o;
+          nets-are = written-is (periodsOf s) _ _ numbers numbers′ (day .nets-are) (net-is imports exports);
+          marks-are = written-is (periodsOf s) _ _ marks marks′ (day .marks-are) (mark-is imports exports);
         }

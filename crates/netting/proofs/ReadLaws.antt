@@ -99,9 +99,9 @@ module _ (s cells : List ℕ) (allGroups : Bool) (date category : ℕ) (numbers 
       record {
         tot = written .day x;
         tot7 = written .week x;
-        periods = front-is (net .periods) numbers numbers′ periods-long (written .nets) x;
-        marks = front-is (net .marks) marks marks′ marks-long (written .flags) x;
+        periods = front-is (net .periods) numbers numbers′ periods-long (written .nets-are) x;
+        marks = front-is (net .marks) marks marks′ marks-long (written .marks-are) x;
       } in (
         ap netIs same ∙ given-is _ m is _ none,
-        (written .nets ∙ after-is _ m is _ _ none, written .flags ∙ after-is _ m is _ _ none),
+        (written .nets-are ∙ after-is _ m is _ _ none, written .marks-are ∙ after-is _ m is _ _ none),
       )

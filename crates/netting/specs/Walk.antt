@@ -71,10 +71,10 @@ periodMark cells first periods imports exports k =
 
 -- 64 categories of 32 bits each
 pub record DayWritten (cells : List ℕ) (first periods : ℕ) (imports exports : List ℕ) (numbers numbers′ : List ℤ) (marks marks′ : List ℕ) (import export : ℕ) : Type 0 where
-  pub nets : numbers′ ≡ filling periods (periodNet cells first periods imports exports) numbers
-  pub flags : marks′ ≡ filling periods (periodMark cells first periods imports exports) marks
-  pub bought : Summed periods 274877906880 (sideValue cells first periods imports) import
-  pub sold : Summed periods 274877906880 (sideValue cells first periods exports) export
+  pub nets-are : numbers′ ≡ filling periods (periodNet cells first periods imports exports) numbers
+  pub marks-are : marks′ ≡ filling periods (periodMark cells first periods imports exports) marks
+  pub imported : Summed periods 274877906880 (sideValue cells first periods imports) import
+  pub exported : Summed periods 274877906880 (sideValue cells first periods exports) export
 
 -- ---- the six dates before
 
@@ -94,8 +94,8 @@ pub record MayWrite (settings cells : List ℕ) (date : ℕ) (imports : List ℕ
   pub complete : cellsReady settings cells ≡ true
   pub date-is : date < datesOf settings
   pub run : isRunAt (rowOf settings) cells date ≡ true
-  pub bought : Among (categoriesOf settings) imports importCount
-  pub sold : Among (categoriesOf settings) exports exportCount
+  pub imported : Among (categoriesOf settings) imports importCount
+  pub exported : Among (categoriesOf settings) exports exportCount
   pub numbers-long : periodsOf settings ≤ numbers
   pub marks-long : periodsOf settings ≤ marks
 
@@ -103,5 +103,5 @@ pub record MayWrite (settings cells : List ℕ) (date : ℕ) (imports : List ℕ
 pub record NetWritten (net : Net) (tot tot7 : ℤ) (numbers numbers′ : List ℤ) (marks marks′ : List ℕ) : Type 0 where
   pub day : tot ≡ net .tot
   pub week : tot7 ≡ net .tot7
-  pub nets : numbers′ ≡ overwritten (net .periods) numbers
-  pub flags : marks′ ≡ overwritten (net .marks) marks
+  pub nets-are : numbers′ ≡ overwritten (net .periods) numbers
+  pub marks-are : marks′ ≡ overwritten (net .marks) marks

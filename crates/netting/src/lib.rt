@@ -44,8 +44,8 @@ pub fn read_net(
     marks: &mut [u8],
 ) -> NetOutcome
     ensures answers { λ r. ⌜ netAnswer (periodsOf (now (settings .entry))) r (now (numbers .exit)) (now (marks .exit)) ≡ answer (netVerdict (now (settings .entry)) (now (cells .entry)) (netCall «all_groups» date category (now (numbers .entry)) (now (marks .entry)))) (netIs (netFor (now (settings .entry)) (now (cells .entry)) (netCall «all_groups» date category (now (numbers .entry)) (now (marks .entry))))) ⌝ }
-    ensures nets { λ r. ⌜ now (numbers .exit) ≡ left (netVerdict (now (settings .entry)) (now (cells .entry)) (netCall «all_groups» date category (now (numbers .entry)) (now (marks .entry)))) (now (numbers .entry)) (overwritten (netFor (now (settings .entry)) (now (cells .entry)) (netCall «all_groups» date category (now (numbers .entry)) (now (marks .entry))) .periods) (now (numbers .entry))) ⌝ }
-    ensures flags { λ r. ⌜ now (marks .exit) ≡ left (netVerdict (now (settings .entry)) (now (cells .entry)) (netCall «all_groups» date category (now (numbers .entry)) (now (marks .entry)))) (now (marks .entry)) (overwritten (netFor (now (settings .entry)) (now (cells .entry)) (netCall «all_groups» date category (now (numbers .entry)) (now (marks .entry))) .marks) (now (marks .entry))) ⌝ }
+    ensures nets_are { λ r. ⌜ now (numbers .exit) ≡ left (netVerdict (now (settings .entry)) (now (cells .entry)) (netCall «all_groups» date category (now (numbers .entry)) (now (marks .entry)))) (now (numbers .entry)) (overwritten (netFor (now (settings .entry)) (now (cells .entry)) (netCall «all_groups» date category (now (numbers .entry)) (now (marks .entry))) .periods) (now (numbers .entry))) ⌝ }
+    ensures marks_are { λ r. ⌜ now (marks .exit) ≡ left (netVerdict (now (settings .entry)) (now (cells .entry)) (netCall «all_groups» date category (now (numbers .entry)) (now (marks .entry)))) (now (marks .entry)) (overwritten (netFor (now (settings .entry)) (now (cells .entry)) (netCall «all_groups» date category (now (numbers .entry)) (now (marks .entry))) .marks) (now (marks .entry))) ⌝ }
 {
     let range_failed = range_number(
         settings,
@@ -112,9 +112,9 @@ fn net_of(
         numbers,
         marks,
     );
-    let import_week = earlier_sum(cells, categories, periods, imports, import_count, date);
-    let export_week = earlier_sum(cells, categories, periods, exports, export_count, date);
+    let import_before = earlier_sum(cells, categories, periods, imports, import_count, date);
+    let export_before = earlier_sum(cells, categories, periods, exports, export_count, date);
     let tot = difference(day.import, day.export);
-    let tot7 = difference(day.import + import_week, day.export + export_week);
+    let tot7 = difference(day.import + import_before, day.export + export_before);
     Net { tot, tot7 }
 }

@@ -35,8 +35,8 @@ write-periods-requires c κs =
     let b = periods-bound _ k in
     let row = row-within _ _ _ (pre .complete) (pre .date-is) in
     rw (c .before .before .before .category-count .ensures, c .before .before .period-count .ensures) (
-      row-reach _ _ _ _ _ (pre .bought) row,
-      row-reach _ _ _ _ _ (pre .sold) row,
+      row-reach _ _ _ _ _ (pre .imported) row,
+      row-reach _ _ _ _ _ (pre .exported) row,
       b .1,
       omega (arith, row, mul-le-mul-right (periodsOf settings) (k .categories .0)),
       pre .numbers-long,
@@ -48,14 +48,14 @@ earlier-sum-requires c κs =
     let pre = c .before .before .before .before .before .before .before .before .before .before .before .pre in
     let b = periods-bound _ (ready _ (pre .opened)) in
     rw (c .before .before .before .before .before .before .before .category-count .ensures, c .before .before .before .before .before .before .period-count .ensures)
-    (pre .bought, omega arith, b .1, row-within _ _ _ (pre .complete) (pre .date-is))
+    (pre .imported, omega arith, b .1, row-within _ _ _ (pre .complete) (pre .date-is))
 
 earlier-sum-requires-2 : tie.Need-earlier-sum-requires-2
 earlier-sum-requires-2 c κs =
     let pre = c .before .before .before .before .before .before .before .before .before .before .before .before .pre in
     let b = periods-bound _ (ready _ (pre .opened)) in
     rw (c .before .before .before .before .before .before .before .before .category-count .ensures, c .before .before .before .before .before .before .before .period-count .ensures)
-    (pre .sold, omega arith, b .1, row-within _ _ _ (pre .complete) (pre .date-is))
+    (pre .exported, omega arith, b .1, row-within _ _ _ (pre .complete) (pre .date-is))
 
 -- each side's sum of the date, and of the week, is far below 2 ^ 63
 difference-requires : tie.Need-difference-requires
@@ -64,21 +64,21 @@ difference-requires c κs =
     let b = periods-bound _ (ready _ (pre .opened)) in
     let periods = c .before .before .before .before .before .before .before .before .period-count .ensures in
     let day = c .before .before .before .before .before .write-periods .ensures in
-    (omega (arith, day-small (day .bought) (omega (arith, periods, b .1))), omega (arith, day-small (day .sold) (omega (arith, periods, b .1))))
+    (omega (arith, day-small (day .imported) (omega (arith, periods, b .1))), omega (arith, day-small (day .exported) (omega (arith, periods, b .1))))
 
 add-difference : tie.Need-add-difference
 add-difference c =
     let pre = c .before .before .before .before .before .before .before .before .before .before .before .before .before .before .before .pre in
     let b = periods-bound _ (ready _ (pre .opened)) in
     let day = c .before .before .before .before .before .before .before .write-periods .ensures in
-    omega (arith, day-small (day .bought) (omega (arith, c .before .before .before .before .before .before .before .before .before .before .period-count .ensures, b .1)), week-small (c .before .before .before .earlier-sum .ensures) (pre .bought .few))
+    omega (arith, day-small (day .imported) (omega (arith, c .before .before .before .before .before .before .before .before .before .before .period-count .ensures, b .1)), week-small (c .before .before .before .earlier-sum .ensures) (pre .imported .few))
 
 add-difference-2 : tie.Need-add-difference-2
 add-difference-2 c =
     let pre = c .before .before .before .before .before .before .before .before .before .before .before .before .before .before .before .before .pre in
     let b = periods-bound _ (ready _ (pre .opened)) in
     let day = c .before .before .before .before .before .before .before .before .write-periods .ensures in
-    omega (arith, day-small (day .sold) (omega (arith, c .before .before .before .before .before .before .before .before .before .before .before .period-count .ensures, b .1)), week-small (c .before .before .before .earlier-sum2 .ensures) (pre .sold .few))
+    omega (arith, day-small (day .exported) (omega (arith, c .before .before .before .before .before .before .before .before .before .before .before .period-count .ensures, b .1)), week-small (c .before .before .before .earlier-sum2 .ensures) (pre .exported .few))
 
 difference-requires-2 : tie.Need-difference-requires-2
 difference-requires-2 c κs =
@@ -86,8 +86,8 @@ difference-requires-2 c κs =
     let b = periods-bound _ (ready _ (pre .opened)) in
     let periods = c .before .before .before .before .before .before .before .before .before .before .before .period-count .ensures in
     let day = c .before .before .before .before .before .before .before .before .write-periods .ensures in (
-      omega (arith, day-small (day .bought) (omega (arith, periods, b .1)), week-small (c .before .before .before .before .earlier-sum .ensures) (pre .bought .few)),
-      omega (arith, day-small (day .sold) (omega (arith, periods, b .1)), week-small (c .before .before .before .earlier-sum2 .ensures) (pre .sold .few)),
+      omega (arith, day-small (day .imported) (omega (arith, periods, b .1)), week-small (c .before .before .before .before .earlier-sum .ensures) (pre .imported .few)),
+      omega (arith, day-small (day .exported) (omega (arith, periods, b .1)), week-small (c .before .before .before .earlier-sum2 .ensures) (pre .exported .few)),
     )
 
 same-length : tie.Need-same-length
@@ -103,17 +103,17 @@ returns c =
     let periods = c .before .before .before .before .before .before .before .before .before .before .before .before .period-count .ensures in
     let day = c .before .before .before .before .before .before .before .before .before .write-periods .ensures in
     let sums = c .before .before .before .before .before .before .before .before .before .write-periods .result in
-    let before = c .before .before .before .before .before .earlier-sum .ensures in
-    let sold = c .before .before .before .before .earlier-sum2 .ensures in
+    let import-before = c .before .before .before .before .before .earlier-sum .ensures in
+    let export-before = c .before .before .before .before .earlier-sum2 .ensures in
     let b = periods-bound _ (ready _ (pre .opened)) in
-    let import-small = day-small (day .bought) (omega (arith, periods, b .1)) in
-    let export-small = day-small (day .sold) (omega (arith, periods, b .1)) in
+    let import-small = day-small (day .imported) (omega (arith, periods, b .1)) in
+    let export-small = day-small (day .exported) (omega (arith, periods, b .1)) in
     net-written _ _ _ _ _ _ _ _ _ _ _ _ _ _ _ (pre .run)
     (rw (categories, periods) at day)
-    (rw (categories, periods) at (before .is))
-    (rw (categories, periods) at (sold .is))
+    (rw (categories, periods) at (import-before .is))
+    (rw (categories, periods) at (export-before .is))
     (difference-back _ (sums .import) (sums .export) (c .before .before .before .difference .ensures) (omega (arith, import-small)) (omega (arith, export-small)))
-    (difference-back _ (sums .import + c .before .before .before .before .before .earlier-sum .result) (sums .export + c .before .before .before .before .earlier-sum2 .result) (c .difference2 .ensures) (omega (arith, import-small, week-small before (pre .bought .few))) (omega (arith, export-small, week-small sold (pre .sold .few))))
+    (difference-back _ (sums .import + c .before .before .before .before .before .earlier-sum .result) (sums .export + c .before .before .before .before .earlier-sum2 .result) (c .difference2 .ensures) (omega (arith, import-small, week-small import-before (pre .imported .few))) (omega (arith, export-small, week-small export-before (pre .exported .few))))
 
 pub net-of-spec : {M : Type 1} → statement M
 net-of-spec =

@@ -53,8 +53,8 @@ net-of-requires c κs =
       complete = ok .0 .complete;
       date-is = ok .1;
       run = pair-passed _ _ _ _ _ _ (pair .before .pair-number .ensures) (pair .if2 .left);
-      bought = found-among _ _ _ _ _ _ (c .before .before .before .before .members2 .ensures);
-      sold = found-among _ _ _ _ _ _ (c .before .before .before .before .before .before .before .before .members .ensures);
+      imported = found-among _ _ _ _ _ _ (c .before .before .before .before .members2 .ensures);
+      exported = found-among _ _ _ _ _ _ (c .before .before .before .before .before .before .before .before .members .ensures);
       numbers-long = ok .0 .numbers-long;
       marks-long = ok .0 .marks-long;
     }

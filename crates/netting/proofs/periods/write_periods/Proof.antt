@@ -109,10 +109,10 @@ returns : tie.Need-returns Inv-loop μ-loop
 returns c =
     let loop = c .before .loop in
     record {
-      nets = filled _ _ (loop .numbers) (loop .k) _ (loop .inv .1) (omega arith);
-      flags = filled _ _ (loop .marks) (loop .k) _ (loop .inv .2) (omega arith);
-      bought = ends (omega arith) (loop .inv .3);
-      sold = ends (omega arith) (loop .inv .4);
+      nets-are = filled _ _ (loop .numbers) (loop .k) _ (loop .inv .1) (omega arith);
+      marks-are = filled _ _ (loop .marks) (loop .k) _ (loop .inv .2) (omega arith);
+      imported = ends (omega arith) (loop .inv .3);
+      exported = ends (omega arith) (loop .inv .4);
     }
 
 pub write-periods-spec : {M : Type 1} → statement M
