@@ -1,3 +1,2 @@
--- Laws that the console's proofs share, and the theorem on conversations.
+-- Laws that the console's proofs share.
 pub mod Laws
-pub mod Conversation

@@ -8,8 +8,8 @@ use Rattle.ledger.specs.Checks.{RegistrationCall, ReceptionCall}
 use Rattle.ledger.specs.Ledger.{Call, register, receive, run, readTotals, readCell, Answer, accepted, answer, left, Opening}
 use Rattle.ledger.specs.Calls.{openingVerdict, openedSettings, openedMeters, openedReadings, openedCells}
 use Rattle.ledger.specs.Engine.{Parts, callAnswer, metersAfter, readingsAfter, cellsAfter}
-use Rattle.commands.specs.Operands.{operand, openingAt, registrationAt, receptionAt, bodyOf, runWidths, totalsWidths, cellWidths}
-use Rattle.answers.specs.Lines.{answerLine}
+use Rattle.input.specs.Operands.{operand, openingOperands, registrationOperands, receptionOperands, bodyOf, runWidths, totalsWidths, cellWidths}
+use Rattle.output.specs.Lines.{answerLine}
 
 abbrev pub partsOf : List ℕ → List ℕ → List ℕ → List ℕ → Parts
 partsOf settings meters readings cells = record { settings = settings; meters = meters; readings = readings; cells = cells }
@@ -36,8 +36,8 @@ code command = getD command 0 0
 abbrev pub openingOf : List ℕ → List ℕ → List ℕ → Opening
 openingOf command categoryBytes dayTypes =
     record {
-      duration = openingAt command .duration;
-      meters = openingAt command .meters;
+      duration = openingOperands command .duration;
+      meters = openingOperands command .meters;
       categoryBytes = categoryBytes;
       dayTypes = dayTypes;
     }
@@ -73,7 +73,7 @@ openingLeaves suffices p a =
 
 abbrev pub registrationOf : List ℕ → RegistrationCall
 registrationOf command =
-    let given = registrationAt command in
+    let given = registrationOperands command in
     record {
       mpan = given .mpan;
       date = given .date;
@@ -86,7 +86,7 @@ registrationOf command =
 
 abbrev pub receptionOf : List ℕ → ReceptionCall
 receptionOf command =
-    let given = receptionAt command in
+    let given = receptionOperands command in
     record {
       sender = given .sender;
       mpan = given .mpan;

@@ -1,4 +1,3 @@
--- What the console's contracts cite, and what is proved of its conversations.
+-- What the console's contracts cite.
 pub mod Commands
 pub mod Session
-pub mod Conversation

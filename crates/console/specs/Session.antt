@@ -5,14 +5,14 @@ use mathlib.Core.Bool.{Bool, true, cond}
 use mathlib.Core.List.{List, [], _∷_, _++_}
 use lib.ListN.{length, take, drop}
 use lib.Dec.{leb, ltb}
-use Rattle.commands.specs.Form.{extentOf}
-use Rattle.commands.specs.declared.extent.Extent.{Extent}
-use Rattle.commands.specs.declared.extent.Extent.the-variants.{Whole, Cut, Bad}
+use Rattle.input.specs.Form.{extentOf}
+use Rattle.input.specs.declared.extent.Extent.{Extent}
+use Rattle.input.specs.declared.extent.Extent.the-variants.{Whole, Cut, Bad}
 use Rattle.console.specs.Commands.{Most, State, partsOf, lineFor, stateAfter}
 use Rattle.console.specs.declared.session.Session.{Session}
 
 -- the bytes not yet taken lie within the input block
-pub record Window (s : Session) (input : ℕ) : Type 0 where
+pub record BlockBounds (s : Session) (input : ℕ) : Type 0 where
   pub begun : s .at ≤ s .end
   pub block : s .end ≤ input
 
@@ -62,8 +62,8 @@ nextExtent s input categoryRecords dayTypes =
     extentOf (untaken s input) (leb 8 (length categoryRecords - s .«category_bytes»)) (ltb (s .«day_types») (length dayTypes))
 
 -- what a turn does: a whole command is obeyed and passed, of a cut one more is read, and bytes that are none end the dialogue with `bad`
-abbrev pub Turned : Most → Session → State → List ℕ → Extent → List ℕ → Session → State → List ℕ → Type 0
-Turned m s state bytes (Whole n) waited r after waits =
+abbrev pub AfterTurn : Most → Session → State → List ℕ → Extent → List ℕ → Session → State → List ℕ → Type 0
+AfterTurn m s state bytes (Whole n) waited r after waits =
     (r .at ≡ s .at + n) × (after ≡ stateAfter m state bytes) × Printed waited (lineFor m state bytes) waits
-Turned m s state bytes Cut waited r after waits = after ≡ state
-Turned m s state bytes Bad waited r after waits = (after ≡ state) × (r .over ≡ true) × Printed waited badLine waits
+AfterTurn m s state bytes Cut waited r after waits = after ≡ state
+AfterTurn m s state bytes Bad waited r after waits = (after ≡ state) × (r .ended ≡ true) × Printed waited badLine waits

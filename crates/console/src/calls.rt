@@ -1,24 +1,22 @@
 // One function for each call of the engine: the operands in, the answer line out.
-use answers::append::append;
-use answers::lines::append_cell;
-use answers::lines::append_outcome;
-use answers::lines::append_run;
-use answers::lines::append_totals;
-use commands::operands::one;
-use commands::operands::opening_at;
-use commands::operands::reception_at;
-use commands::operands::registration_at;
-use commands::operands::two;
-use registry::reception;
-use registry::registration;
+use input::operands::one;
+use input::operands::opening_operands;
+use input::operands::reception_operands;
+use input::operands::registration_operands;
+use input::operands::two;
+use output::append::append;
+use output::lines::append_cell;
+use output::lines::append_outcome;
+use output::lines::append_run;
+use output::lines::append_totals;
 ghost use mathlib.Core.Path.{_≡_};
 ghost use Prim.Native.Nat.{_+_, _*_, _≤_};
 ghost use lib.ListN.{length, take, getD};
-ghost use Rattle.commands.specs.Operands.{bodyOf, operand, runWidths, totalsWidths, cellWidths};
+ghost use Rattle.input.specs.Operands.{bodyOf, operand, runWidths, totalsWidths, cellWidths};
 ghost use Rattle.ledger.specs.Ledger.{answer, accepted, moved, totalsAre, cellIs, left};
 ghost use Rattle.ledger.specs.Calls.{registrationVerdict, registeredMeters, receptionVerdict, receivedReadings, runVerdict, ranFrom, totalsVerdict, totalsFor, cellVerdict, cellFor};
-ghost use Rattle.answers.specs.Text.{Appended};
-ghost use Rattle.answers.specs.Lines.{answerLine};
+ghost use Rattle.output.specs.Text.{Appended};
+ghost use Rattle.output.specs.Lines.{answerLine};
 ghost use Rattle.console.specs.Commands.{partsOf, most, partsSuffice, openingOf, sufficesFor, openingAnswer, openingLeaves, registrationOf, receptionOf};
 
 // Whether the program's parts are enough for that many meters and date-periods. Durations other
@@ -60,7 +58,7 @@ pub fn open(
     ensures { λ r. ⌜ partsOf (now (settings .exit)) (now (meters .exit)) (now (readings .exit)) (now (cells .exit)) ≡ openingLeaves (sufficesFor (most «most_meters» «most_date_periods») (openingOf (now (command .entry)) (now («category_records» .entry)) (now («day_types» .entry)))) (partsOf (now (settings .entry)) (now (meters .entry)) (now (readings .entry)) (now (cells .entry))) (openingOf (now (command .entry)) (now («category_records» .entry)) (now («day_types» .entry))) ⌝ }
     ensures { λ r. ⌜ r ≤ at + 300 ⌝ }
 {
-    let given = opening_at(command);
+    let given = opening_operands(command);
     let dates = day_types.len() as u64;
     if parts_suffice(
         given.duration,
@@ -69,7 +67,7 @@ pub fn open(
         most_meters,
         most_date_periods,
     ) {
-        let outcome = opening::open(
+        let outcome = engine::open(
             settings,
             meters,
             readings,
@@ -81,7 +79,7 @@ pub fn open(
         );
         return append_outcome(out, at, 0x10, outcome);
     }
-    let outcome = opening::open(
+    let outcome = engine::open(
         &mut settings[..0],
         &mut meters[..0],
         &mut readings[..0],
@@ -107,8 +105,8 @@ pub fn register(
     ensures { λ r. ⌜ now (meters .exit) ≡ left (registrationVerdict (now (settings .entry)) (now (meters .entry)) (now (readings .entry)) (registrationOf (now (command .entry)))) (now (meters .entry)) (registeredMeters (now (settings .entry)) (now (meters .entry)) (now (readings .entry)) (registrationOf (now (command .entry)))) ⌝ }
     ensures { λ r. ⌜ r ≤ at + 300 ⌝ }
 {
-    let given = registration_at(command);
-    let outcome = registration::register(
+    let given = registration_operands(command);
+    let outcome = engine::register(
         settings,
         meters,
         readings,
@@ -152,10 +150,10 @@ pub fn receive(
     ensures { λ r. ⌜ now (readings .exit) ≡ left (receptionVerdict (now (settings .entry)) (now (meters .entry)) (now (readings .entry)) (receptionOf (now (command .entry)))) (now (readings .entry)) (receivedReadings (now (settings .entry)) (now (meters .entry)) (now (readings .entry)) (receptionOf (now (command .entry)))) ⌝ }
     ensures { λ r. ⌜ r ≤ at + 300 ⌝ }
 {
-    let given = reception_at(command);
+    let given = reception_operands(command);
     let mut body = [0u8; 1785];
     let length = gather(command, given.records, &mut body);
-    let outcome = reception::receive(
+    let outcome = engine::receive(
         settings,
         meters,
         readings,
@@ -183,7 +181,7 @@ pub fn run(
     ensures { λ r. ⌜ now (cells .exit) ≡ left (runVerdict (now (settings .entry)) (now (meters .entry)) (now (readings .entry)) (now (cells .entry)) (operand runWidths 0 (now (command .entry)))) (now (cells .entry)) (ranFrom (now (settings .entry)) (now (meters .entry)) (now (readings .entry)) (now (cells .entry)) (operand runWidths 0 (now (command .entry))) .cells) ⌝ }
     ensures { λ r. ⌜ r ≤ at + 300 ⌝ }
 {
-    let outcome = shapes::run(settings, meters, readings, cells, two(command, 1));
+    let outcome = engine::run(settings, meters, readings, cells, two(command, 1));
     append_run(out, at, outcome)
 }
 
@@ -192,7 +190,7 @@ pub fn totals(command: &[u8], settings: &[u8], cells: &[u64], out: &mut [u8], at
     ensures { λ r. ⌜ Appended (now (out .entry)) at (now (out .exit)) r (answerLine 23 (answer (totalsVerdict (now (settings .entry)) (now (cells .entry)) (operand totalsWidths 0 (now (command .entry))) (operand totalsWidths 1 (now (command .entry)))) (totalsAre (totalsFor (now (settings .entry)) (now (cells .entry)) (operand totalsWidths 0 (now (command .entry))) (operand totalsWidths 1 (now (command .entry))))))) ⌝ }
     ensures { λ r. ⌜ r ≤ at + 300 ⌝ }
 {
-    let outcome = reports::read_totals(settings, cells, two(command, 1), one(command, 3));
+    let outcome = engine::read_totals(settings, cells, two(command, 1), one(command, 3));
     append_totals(out, at, outcome)
 }
 
@@ -201,7 +199,7 @@ pub fn cell(command: &[u8], settings: &[u8], cells: &[u64], out: &mut [u8], at: 
     ensures { λ r. ⌜ Appended (now (out .entry)) at (now (out .exit)) r (answerLine 24 (answer (cellVerdict (now (settings .entry)) (now (cells .entry)) (operand cellWidths 0 (now (command .entry))) (operand cellWidths 1 (now (command .entry))) (operand cellWidths 2 (now (command .entry)))) (cellIs (cellFor (now (settings .entry)) (now (cells .entry)) (operand cellWidths 0 (now (command .entry))) (operand cellWidths 1 (now (command .entry))) (operand cellWidths 2 (now (command .entry))))))) ⌝ }
     ensures { λ r. ⌜ r ≤ at + 300 ⌝ }
 {
-    let outcome = reports::read_cell(
+    let outcome = engine::read_cell(
         settings,
         cells,
         two(command, 1),

@@ -1,19 +1,19 @@
 // Blocks of input taken command by command, and the answers gathered into blocks of output.
 use crate::calls;
-use answers::append::append;
-use commands::extent::Extent;
-use commands::extent::command_extent;
+use input::extent::Extent;
+use input::extent::command_extent;
 use libc::STDIN_FILENO;
 use libc::STDOUT_FILENO;
+use output::append::append;
 ghost use mathlib.Core.Path.{_≡_};
 ghost use Prim.Native.Nat.{_+_, _≤_};
 ghost use lib.ListN.{length, take, drop, getD};
-ghost use Rattle.commands.specs.Form.{Command};
+ghost use Rattle.input.specs.Form.{Command};
 ghost use Rattle.ledger.specs.Engine.{callAnswer};
-ghost use Rattle.answers.specs.Text.{Appended};
-ghost use Rattle.answers.specs.Lines.{answerLine};
+ghost use Rattle.output.specs.Text.{Appended};
+ghost use Rattle.output.specs.Lines.{answerLine};
 ghost use Rattle.console.specs.Commands.{partsOf, most, code, callOf, callLeaves, lineFor, stateAfter};
-ghost use Rattle.console.specs.Session.{Window, Held, Room, RoomFor, Printed, stateOf, badLine, untaken, nextExtent, Turned};
+ghost use Rattle.console.specs.Session.{BlockBounds, Held, Room, RoomFor, Printed, stateOf, badLine, untaken, nextExtent, AfterTurn};
 
 // The input block's next byte and the one past its last; how much of the lent category records
 // and day types is collected; how much of the output block waits; whether the dialogue is over.
@@ -23,7 +23,7 @@ pub struct Session {
     pub category_bytes: usize,
     pub day_types: usize,
     pub waiting: usize,
-    pub over: bool,
+    pub ended: bool,
 }
 
 // A line is shorter than 300 bytes: room for one, by writing out what waits.
@@ -63,9 +63,9 @@ fn append_bad(output: &mut [u8], waiting: usize) -> usize
 // Reads on behind the cut command, once all that was asked so far is answered. At the input's end
 // nothing may be cut.
 fn refill(session: Session, input: &mut [u8], output: &mut [u8]) -> Session
-    requires { ⌜ Window session (length (now input)) ⌝ }
+    requires { ⌜ BlockBounds session (length (now input)) ⌝ }
     requires { ⌜ (session .waiting ≤ length (now output)) × (300 ≤ length (now output)) ⌝ }
-    ensures { λ r. ⌜ Window r (length (now (input .entry))) × (r .waiting ≤ length (now (output .entry))) ⌝ }
+    ensures { λ r. ⌜ BlockBounds r (length (now (input .entry))) × (r .waiting ≤ length (now (output .entry))) ⌝ }
     ensures { λ r. ⌜ (r .«category_bytes» ≡ session .«category_bytes») × (r .«day_types» ≡ session .«day_types») ⌝ }
 {
     let mut next = session;
@@ -80,7 +80,7 @@ fn refill(session: Session, input: &mut [u8], output: &mut [u8]) -> Session
     next.at = 0;
     next.end = kept + fresh;
     if fresh == 0 {
-        next.over = true;
+        next.ended = true;
         if 0 < kept {
             next.waiting = append_bad(output, 0);
         }
@@ -193,11 +193,11 @@ fn turn(
     most_meters: u64,
     most_date_periods: u64,
 ) -> Session
-    requires { ⌜ Window session (length (now input)) ⌝ }
+    requires { ⌜ BlockBounds session (length (now input)) ⌝ }
     requires { ⌜ Held session (length (now output)) (length (now «category_records»)) (length (now «day_types»)) ⌝ }
-    ensures { λ r. ⌜ Window r (length (now (input .entry))) ⌝ }
+    ensures { λ r. ⌜ BlockBounds r (length (now (input .entry))) ⌝ }
     ensures { λ r. ⌜ Held r (length (now (output .entry))) (length (now («category_records» .entry))) (length (now («day_types» .entry))) ⌝ }
-    ensures { λ r. ⌜ Turned (most «most_meters» «most_date_periods») session (stateOf session (now («category_records» .entry)) (now («day_types» .entry)) (now (settings .entry)) (now (meters .entry)) (now (readings .entry)) (now (cells .entry))) (untaken session (now (input .entry))) (nextExtent session (now (input .entry)) (now («category_records» .entry)) (now («day_types» .entry))) (take (session .waiting) (now (output .entry))) r (stateOf r (now («category_records» .exit)) (now («day_types» .exit)) (now (settings .exit)) (now (meters .exit)) (now (readings .exit)) (now (cells .exit))) (take (r .waiting) (now (output .exit))) ⌝ }
+    ensures { λ r. ⌜ AfterTurn (most «most_meters» «most_date_periods») session (stateOf session (now («category_records» .entry)) (now («day_types» .entry)) (now (settings .entry)) (now (meters .entry)) (now (readings .entry)) (now (cells .entry))) (untaken session (now (input .entry))) (nextExtent session (now (input .entry)) (now («category_records» .entry)) (now («day_types» .entry))) (take (session .waiting) (now (output .entry))) r (stateOf r (now («category_records» .exit)) (now («day_types» .exit)) (now (settings .exit)) (now (meters .exit)) (now (readings .exit)) (now (cells .exit))) (take (r .waiting) (now (output .exit))) ⌝ }
 {
     let at = session.at;
     let end = session.end;
@@ -226,7 +226,7 @@ fn turn(
         Extent::Bad => {
             let mut next = session;
             next.waiting = append_bad(output, next.waiting);
-            next.over = true;
+            next.ended = true;
             next
         }
     }
@@ -252,10 +252,10 @@ fn take_turns(
         category_bytes: 0,
         day_types: 0,
         waiting: 0,
-        over: false,
+        ended: false,
     };
     let mut turns = u64::MAX;
-    while turns > 0 && !session.over {
+    while turns > 0 && !session.ended {
         session = turn(
             session,
             input,

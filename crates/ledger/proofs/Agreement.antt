@@ -16,10 +16,10 @@ use Rattle.ledger.specs.Method.{Picture}
 use Rattle.ledger.specs.Checks.{RegistrationCall, ReceptionCall, Verdict, verdict, registrationCheck, receptionCheck, runCheck, readCheck, totalsInRange, cellInRange, NetCall, resultsShort, mayNet, netCheck}
 use Rattle.ledger.specs.Sizes.{settingsLength, metersLength, readingsLength, cellsLength}
 use Rattle.ledger.specs.Ledger.{Opening, categories, dates, periods, Meter, category, Ledger, start, Call, register, receive, run, readTotals, readCell, readNet, Answer, moved, totalsAre, cellIs, netIs, answer, left, Lengths, settingsShort, metersShort, cellsShort, anyShort, ledgerRegistrationCheck, afterRegistration, ledgerReceptionCheck, afterReception, cellAt, isRun, ledgerRunCheck, afterRun, movedBetween, ledgerTotalsCheck, ledgerCellCheck, totalsAt, ledgerNetCheck, netAt, ledgerAnswer, ledgerAfter}
-use Rattle.ledger.specs.Store.{rowOf, datesOf, categoriesOf, periodsOf, isRunAt}
+use Rattle.ledger.specs.Store.{rowLength, datesOf, categoriesOf, periodsOf, isRunAt}
 use Rattle.ledger.specs.Calls.{metersUnready, runUnready, cellsUnready, openingVerdict, openedMeters, openedReadings, openedCells, registrationVerdict, registeredMeters, receptionVerdict, receivedReadings, rowAt, runVerdict, ranFrom, totalsVerdict, totalsFor, cellVerdict, cellFor, netVerdict, netFor}
 use Rattle.ledger.specs.Engine.{Parts, callAnswer, metersAfter, readingsAfter, cellsAfter, Item, cut, partsAfter, answersFrom, storeAnswers, cutLengths, ledgerAnswers, Every, lengthsOf, openedParts, AreBytes, BodyOfBytes, BodiesOfBytes, Agreement}
-use Rattle.ledger.proofs.Choices.{passed, passed-verdict, not-false, neither}
+use Rattle.ledger.proofs.Choices.{check-passed, verdict-passed, not-false, neither}
 use Rattle.ledger.proofs.Lists.{getD-cut, getD-back, block-below}
 use Rattle.ledger.proofs.Relation.{SettingsAgree, MeterAt, FreeAt, MetersAgree, HeldAt, NotHeldAt, ReadingsAgree, CellsAgree, Sound}
 use Rattle.ledger.proofs.Slots.{slots-kept}
@@ -226,7 +226,7 @@ module _ (p : Parts) (l : Ledger) (agrees : Agrees (lengthsOf p) p l) (n : Lengt
   unfolding ledgerRegistrationCheck registrationCheck afterRegistration
   registration-taken a e =
       let ok = register-step.registration-accepted (l .opening) (l .known) (metersShort (l .opening) (lengthsOf (cut n p))) a (unfold registrationCheck in e) in
-      let enough = enough-meters (passed (metersShort (l .opening) (lengthsOf (cut n p))) 0 _ e .0) in
+      let enough = enough-meters (check-passed (metersShort (l .opening) (lengthsOf (cut n p))) 0 _ e .0) in
       let done = register-step.registration-agrees l (cut n p .settings) (cut n p .meters) (cut n p .readings) (enough .0) (enough .1) (enough .2) (agrees .sound) a ok in
       let reg = registeredMeters (cut n p .settings) (cut n p .meters) (cut n p .readings) a in
       let size : length (reg ++ drop (n .meters) (p .meters)) ≡ length (p .meters) = put-back (l .opening) (n .meters) (p .meters) reg (done .as-long ∙ (unfold cut in refl)) in
@@ -287,7 +287,7 @@ module _ (p : Parts) (l : Ledger) (agrees : Agrees (lengthsOf p) p l) (n : Lengt
   unfolding ledgerReceptionCheck receptionCheck afterReception
   reception-taken a bytes e =
       let ok = receive-step.reception-accepted (l .opening) (l .known) (metersShort (l .opening) (lengthsOf (cut n p))) a (unfold receptionCheck in e) in
-      let enough = enough-meters (passed-verdict (metersShort (l .opening) (lengthsOf (cut n p))) 0 _ e .0) in
+      let enough = enough-meters (verdict-passed (metersShort (l .opening) (lengthsOf (cut n p))) 0 _ e .0) in
       let done = receive-step.reception-agrees l (cut n p .settings) (cut n p .meters) (cut n p .readings) (enough .0) (enough .1) (enough .2) (agrees .sound) a bytes ok in
       let got = receivedReadings (cut n p .settings) (cut n p .meters) (cut n p .readings) a in
       let size : length (got ++ drop (n .readings) (p .readings)) ≡ length (p .readings) = put-back (l .opening) (n .readings) (p .readings) got (done .as-long ∙ (unfold cut in refl)) in
@@ -337,8 +337,8 @@ module _ (p : Parts) (l : Ledger) (agrees : Agrees (lengthsOf p) p l) (n : Lengt
   run-ok : (d : ℕ) → ledgerRunCheck l (lengthsOf (cut n p)) d .number ≡ 0 → (anyShort (l .opening) (lengthsOf (cut n p)) ≡ false) × (d < dates (l .opening))
   unfolding ledgerRunCheck runCheck
   run-ok d e =
-      let a = passed (anyShort (l .opening) (lengthsOf (cut n p))) 0 _ e in
-      (a .0, leb-false (dates (l .opening)) d (passed (leb (dates (l .opening)) d) 8 0 (a .1) .0))
+      let a = check-passed (anyShort (l .opening) (lengthsOf (cut n p))) 0 _ e in
+      (a .0, leb-false (dates (l .opening)) d (check-passed (leb (dates (l .opening)) d) 8 0 (a .1) .0))
 
   run-taken : (d : ℕ) → ledgerRunCheck l (lengthsOf (cut n p)) d .number ≡ 0 →
       Agrees (lengthsOf p)
@@ -414,7 +414,7 @@ module _ (p : Parts) (l : Ledger) (agrees : Agrees (lengthsOf p) p l) (n : Lengt
   -- 14 looks at a date that there is
   read-check : (d : ℕ) (in-store in-ledger : Bool) →
       (cellsShort (l .opening) (lengthsOf (cut n p)) ≡ false → in-store ≡ in-ledger) →
-      readCheck (cellsShort (l .opening) (lengthsOf (cut n p))) (datesOf (cut n p .settings)) d in-store (isRunAt (rowOf (cut n p .settings)) (cut n p .cells) d)
+      readCheck (cellsShort (l .opening) (lengthsOf (cut n p))) (datesOf (cut n p .settings)) d in-store (isRunAt (rowLength (cut n p .settings)) (cut n p .cells) d)
       ≡ readCheck (cellsShort (l .opening) (lengthsOf (cut n p))) (dates (l .opening)) d in-ledger (isRun l d)
   unfolding readCheck
   read-check d a b h =
@@ -445,10 +445,10 @@ module _ (p : Parts) (l : Ledger) (agrees : Agrees (lengthsOf p) p l) (n : Lengt
       (cellsShort (l .opening) (lengthsOf (cut n p)) ≡ false) × (d < dates (l .opening)) × (in-range ≡ true) × (isRun l d ≡ true)
   unfolding readCheck
   read-ok d b e =
-      let p1 = passed (cellsShort (l .opening) (lengthsOf (cut n p))) 0 _ e in
-      let p9 = passed (leb (dates (l .opening)) d) 8 _ (p1 .1) in
-      let p15 = passed (not b) 14 _ (p9 .1) in
-      let p14 = passed (not (isRun l d)) 13 0 (p15 .1) in
+      let p1 = check-passed (cellsShort (l .opening) (lengthsOf (cut n p))) 0 _ e in
+      let p9 = check-passed (leb (dates (l .opening)) d) 8 _ (p1 .1) in
+      let p15 = check-passed (not b) 14 _ (p9 .1) in
+      let p14 = check-passed (not (isRun l d)) 13 0 (p15 .1) in
       (p1 .0, leb-false (dates (l .opening)) d (p9 .0), not-false b (p15 .0), not-false (isRun l d) (p14 .0))
 
   totals-step : (d c : ℕ) → Step (readTotals d c)
@@ -510,11 +510,11 @@ module _ (p : Parts) (l : Ledger) (agrees : Agrees (lengthsOf p) p l) (n : Lengt
       (cellsShort (l .opening) (lengthsOf (cut n p)) ≡ false) × (a .date < dates (l .opening)) × (a .category < categories (l .opening)) × (isRun l (a .date) ≡ true)
   unfolding ledgerNetCheck netCheck totalsInRange
   net-ok a e =
-      let p1 = passed (cellsShort (l .opening) (lengthsOf (cut n p)) || resultsShort (periods (l .opening)) (a .numbers) (a .marks)) 0 _ e in
-      let p9 = passed (leb (dates (l .opening)) (a .date)) 8 _ (p1 .1) in
-      let p15 = passed (not (ltb (a .category) (categories (l .opening)))) 14 _ (p9 .1) in
-      let p26 = passed (not (mayNet (category (l .opening)) (categories (l .opening)) (a .allGroups) (a .category))) 25 _ (p15 .1) in
-      let p14 = passed (not (isRun l (a .date))) 13 0 (p26 .1) in (
+      let p1 = check-passed (cellsShort (l .opening) (lengthsOf (cut n p)) || resultsShort (periods (l .opening)) (a .numbers) (a .marks)) 0 _ e in
+      let p9 = check-passed (leb (dates (l .opening)) (a .date)) 8 _ (p1 .1) in
+      let p15 = check-passed (not (ltb (a .category) (categories (l .opening)))) 14 _ (p9 .1) in
+      let p26 = check-passed (not (mayNet (category (l .opening)) (categories (l .opening)) (a .allGroups) (a .category))) 25 _ (p15 .1) in
+      let p14 = check-passed (not (isRun l (a .date))) 13 0 (p26 .1) in (
         neither _ (resultsShort (periods (l .opening)) (a .numbers) (a .marks)) (p1 .0) .0,
         leb-false (dates (l .opening)) (a .date) (p9 .0),
         ltb-true (a .category) (categories (l .opening)) (not-false _ (p15 .0)),

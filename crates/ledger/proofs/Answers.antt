@@ -13,7 +13,7 @@ use Rattle.ledger.specs.Method.{Cell, isFresh, isBlank, overRunDates, to
 use Rattle.ledger.specs.Net.{activeImport, activeExport, onSide, sideOf}
 use Rattle.ledger.specs.Checks.{NetCall, mayNet}
 use Rattle.ledger.specs.Ledger.{categories, dates, periods, category, dayType, Ledger, cellAt, isPicture, isRun, totalsAt, sideAt, netAt}
-use Rattle.ledger.specs.Store.{periodsOf, rowOf, categoryOf, cellIndex, cellOfEntry, isRunAt}
+use Rattle.ledger.specs.Store.{periodsOf, rowLength, categoryOf, cellIndex, cellOfEntry, isRunAt}
 use Rattle.ledger.specs.Calls.{rowAt, cellFor, totalsFor, sideFor, netFor}
 use Rattle.ledger.specs.Engine.{Every}
 use Rattle.ledger.proofs.Lists.{sumBelow-cong, block-below}
@@ -78,11 +78,11 @@ module _ (duration periods w : ℕ) (run run′ : ℕ → Bool) (cell cell′ : 
 -- ---- the store's cells are the ledger's
 
 module _ (l : Ledger) (s cells : List ℕ) (agree : SettingsAgree (l .opening) s) (cellsAgree : CellsAgree (l .opening) cells (l .pictures)) (sound : Sound l) where
-  row-is : rowOf s ≡ categories (l .opening) * periods (l .opening)
-  unfolding rowOf periodsOf
+  row-is : rowLength s ≡ categories (l .opening) * periods (l .opening)
+  unfolding rowLength periodsOf
   row-is = rw (agree .categories-are, agree .duration)
 
-  pub run-is : (d : ℕ) → d < dates (l .opening) → isRunAt (rowOf s) cells d ≡ isRun l d
+  pub run-is : (d : ℕ) → d < dates (l .opening) → isRunAt (rowLength s) cells d ≡ isRun l d
   unfolding isRun
   run-is d h =
       let p = valid-periods (l .opening) (sound .valid) in
@@ -113,7 +113,7 @@ module _ (l : Ledger) (s cells : List ℕ) (agree : SettingsAgree (l .opening) s
   unfolding totalsFor totalsAt periodsOf
   totals-are d c hd hc r =
       rw (agree .duration, agree .records c hc)
-      (totals-cong (l .opening .duration) (periods (l .opening)) (category (l .opening) c .window) (isRunAt (rowOf s) cells) (isRun l)
+      (totals-cong (l .opening .duration) (periods (l .opening)) (category (l .opening) c .window) (isRunAt (rowLength s) cells) (isRun l)
       (λ x j. cellFor s cells x c j) (λ x j. cellAt l x c j) d
       (λ x h. run-is x (omega arith))
       (λ x k h q m. cell-is x c k (omega arith) hc m (sym (run-is x (omega arith)) ∙ q))
@@ -144,7 +144,7 @@ module _ (l : Ledger) (s cells : List ℕ) (agree : SettingsAgree (l .opening) s
   unfolding netFor netAt periodsOf
   net-is a hd hc r =
       rw (agree .duration, side-is (a .allGroups) activeImport (a .category) hc, side-is (a .allGroups) activeExport (a .category) hc)
-      (net-cong (periods (l .opening)) (isRunAt (rowOf s) cells) (isRun l) (cellFor s cells) (cellAt l) (categories (l .opening))
+      (net-cong (periods (l .opening)) (isRunAt (rowLength s) cells) (isRun l) (cellFor s cells) (cellAt l) (categories (l .opening))
       (sideAt l (a .allGroups) activeImport (a .category)) (sideAt l (a .allGroups) activeExport (a .category))
       (side-low (a .allGroups) activeImport (a .category)) (side-low (a .allGroups) activeExport (a .category))
       (a .date)

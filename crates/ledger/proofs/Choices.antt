@@ -14,10 +14,10 @@ not-false true e = refl
 not-false false e = absurd (true≢false e)
 
 -- a check that lets a call pass
-pub passed : (b : Bool) (n rest : ℕ) → cond b (suc n) rest ≡ 0 → (b ≡ false) × (rest ≡ 0)
-passed true n rest e = absurd (omega arith)
-passed false n rest e = (refl, e)
+pub check-passed : (b : Bool) (n rest : ℕ) → cond b (suc n) rest ≡ 0 → (b ≡ false) × (rest ≡ 0)
+check-passed true n rest e = absurd (omega arith)
+check-passed false n rest e = (refl, e)
 
-pub passed-verdict : (b : Bool) (n : ℕ) (rest : Verdict) → (cond b (verdict (suc n)) rest) .number ≡ 0 → (b ≡ false) × (rest .number ≡ 0)
-passed-verdict true n rest e = absurd (omega arith)
-passed-verdict false n rest e = (refl, e)
+pub verdict-passed : (b : Bool) (n : ℕ) (rest : Verdict) → (cond b (verdict (suc n)) rest) .number ≡ 0 → (b ≡ false) × (rest .number ≡ 0)
+verdict-passed true n rest e = absurd (omega arith)
+verdict-passed false n rest e = (refl, e)

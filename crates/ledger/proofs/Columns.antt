@@ -8,7 +8,7 @@ use native.Mathlib.Nat.{add-zero, add-suc}
 use lib.Dec.{eqb}
 use borrow.Table.Steps.{cases}
 use borrow.Author.Tests.{eqb-true, eqb-false}
-use Rattle.ledger.specs.Method.{Fresh, Cell, blank, cellFrom, Day, notRun, ran, pass, latest, cellOf, cellOn}
+use Rattle.ledger.specs.Method.{Fresh, Cell, blank, cellFrom, Day, notRun, ran, afterDate, latest, cellOf, cellOn}
 use Rattle.ledger.proofs.Entries.{Small, SmallFresh, blank-small, cellFrom-small}
 
 -- a date that is run or not, with its own shape if it is
@@ -17,21 +17,21 @@ dayIf true f = ran f
 dayIf false f = notRun
 
 module _ (dayType : ℕ → ℕ) (day : ℕ → Day) (t d : ℕ) where
-  pub latest-suc : latest dayType day t (suc d) ≡ pass d (day d) (eqb (dayType d) t) (latest dayType day t d)
+  pub latest-suc : latest dayType day t (suc d) ≡ afterDate d (day d) (eqb (dayType d) t) (latest dayType day t d)
   unfolding latest
   latest-suc = refl
 
   -- past a date of another type, or one not run
   pub latest-other-type : eqb (dayType d) t ≡ false → latest dayType day t (suc d) ≡ latest dayType day t d
-  unfolding latest pass
-  latest-other-type e = (elim (day d) as (λ x. pass d x (eqb (dayType d) t) (latest dayType day t d) ≡ latest dayType day t d) [ notRun ↦ refl | ran f ↦ rw e ])
+  unfolding latest afterDate
+  latest-other-type e = (elim (day d) as (λ x. afterDate d x (eqb (dayType d) t) (latest dayType day t d) ≡ latest dayType day t d) [ notRun ↦ refl | ran f ↦ rw e ])
 
   pub latest-not-run : day d ≡ notRun → latest dayType day t (suc d) ≡ latest dayType day t d
-  unfolding latest pass
+  unfolding latest afterDate
   latest-not-run e = rw e
 
   pub latest-run : (f : Fresh) → day d ≡ ran f → eqb (dayType d) t ≡ true → latest dayType day t (suc d) ≡ cellFrom d f (latest dayType day t d)
-  unfolding latest pass
+  unfolding latest afterDate
   latest-run f e q = rw (e, q)
 
   -- a run date's own cell is what is latest right after it
@@ -43,8 +43,8 @@ module _ (dayType : ℕ → ℕ) (day : ℕ → Day) (t d : ℕ) where
   unfolding cellOn cellOf
   cell-not-run e = rw e
 
-pass-small : (d : ℕ) (f : Fresh) (r q : Bool) (before : Cell) → d < 65536 → SmallFresh f → Small before → Small (pass d (dayIf r f) q before)
-unfolding pass
+pass-small : (d : ℕ) (f : Fresh) (r q : Bool) (before : Cell) → d < 65536 → SmallFresh f → Small before → Small (afterDate d (dayIf r f) q before)
+unfolding afterDate
 pass-small d f true true before h s t = cellFrom-small d f before h s t
 pass-small d f true false before h s t = t
 pass-small d f false q before h s t = t

@@ -15,14 +15,14 @@ use Rattle.metering.specs.Mpan.{mpanValid}
 use Rattle.metering.specs.Range.{between}
 use Rattle.metering.specs.Calendar.{durationKnown, periodEnding}
 use Rattle.metering.specs.Laws.{between-true, duration-pos, periodsPerDay-times, periodEnding-at, periodEnding-is, periodEnding-le}
-use Rattle.ledger.specs.Method.{Category, Picture, freshIn, Fresh, absent, own, pooled, Cell, Flag, A, D, E, N, blank, carried, cellFrom, Day, notRun, ran, pass, latest, cellOf, cellOn}
+use Rattle.ledger.specs.Method.{Category, Picture, freshIn, Fresh, absent, own, pooled, Cell, Flag, A, D, E, N, blank, carried, cellFrom, Day, notRun, ran, afterDate, latest, cellOf, cellOn}
 use Rattle.ledger.specs.Checks.{Registration, ReceptionCall, verdict, firstFailed, anyBelow, endMinute, quality, wattHoursAt, recordNumber, bodyCheck, inForceCheck, receptionCheck, runCheck, readCheck, totalsInRange, cellInRange}
 use Rattle.ledger.specs.Ledger.{Opening, categories, dates, periods, category, dayType, Ledger, Answer, refused, moved, totalsAre, cellIs, answer, Lengths, metersShort, cellsShort, anyShort, meterWith, currentOf, at, cellBy, cellAt, dayOf, isPicture, isRun, ledgerReceptionCheck, ledgerRunCheck, ledgerTotalsCheck, ledgerCellCheck, pictureOf, afterRun, movedBetween, totalsAt, ledgerAnswer}
 use Rattle.ledger.specs.Demands.{GoodRecord, MayReceive, ReceptionExact, RunIsMethod, NeverNotRun, SecondRunMovesNothing, SamePicturesSameCells, CopiesHaveOrigins}
 use Rattle.ledger.proofs.Lists.{below-suc, sumBelow-none}
 use Rattle.ledger.proofs.Entries.{moved-same}
 use Rattle.ledger.proofs.Verdicts.{accepted-none}
-use Rattle.ledger.proofs.Choices.{passed, passed-verdict, not-false}
+use Rattle.ledger.proofs.Choices.{check-passed, verdict-passed, not-false}
 use Rattle.ledger.proofs.Receive.{first-passed}
 
 -- ---- runs and reads
@@ -123,12 +123,12 @@ from-cell day d (own v n) b e h = (omega arith, inl e)
 from-cell day d (pooled v n) b e h = (omega arith, inr e)
 
 from-latest : (dt : ℕ → ℕ) (day : ℕ → Day) (t d : ℕ) → From day d (latest dt day t d) (latest dt day t d .flag)
-unfolding latest blank pass
+unfolding latest blank afterDate
 from-latest dt day t zero = tt
 from-latest dt day t (suc d) = past (day d) refl (from-latest dt day t d)
   where
     past : (x : Day) → day d ≡ x → From day d (latest dt day t d) (latest dt day t d .flag) →
-        From day (suc d) (pass d x (eqb (dt d) t) (latest dt day t d)) (pass d x (eqb (dt d) t) (latest dt day t d) .flag)
+        From day (suc d) (afterDate d x (eqb (dt d) t) (latest dt day t d)) (afterDate d x (eqb (dt d) t) (latest dt day t d) .flag)
     past notRun e h = from-later day d (latest dt day t d) (latest dt day t d .flag) h
     past (ran f) e h =
         (elim (eqb (dt d) t) as (λ b. From day (suc d) (cond b (cellFrom d f (latest dt day t d)) (latest dt day t d)) (cond b (cellFrom d f (latest dt day t d)) (latest dt day t d) .flag)) [
@@ -214,13 +214,13 @@ module _ (o : Opening) (r : Registration) (body : List ℕ) (k : ℕ) (known : d
   good-record : recordNumber (o .duration) (r .status) (r .limit) body k ≡ 0 → GoodRecord o r body k
   unfolding recordNumber
   good-record e =
-      let p13 = passed (not (between 1 14 (quality body k))) 12 _ e in
-      let p1005 = passed (eqb (periodEnding (o .duration) (endMinute body k)) 0) 1004 _ (p13 .1) in
-      let p1006 = passed (anyBelow k (λ i. eqb (endMinute body i) (endMinute body k))) 1005 _ (p1005 .1) in
-      let p1008 = passed (eqb (r .status) 2 && ltb 9 (quality body k)) 1007 _ (p1006 .1) in
-      let p1009 = passed (eqb (r .status) 3) 1008 _ (p1008 .1) in
-      let p1011 = passed (between 10 13 (quality body k) && not (eqb (wattHoursAt body k) 0)) 1010 _ (p1009 .1) in
-      let p1012 = passed (ltb (r .limit) (wattHoursAt body k)) 1011 0 (p1011 .1) in
+      let p13 = check-passed (not (between 1 14 (quality body k))) 12 _ e in
+      let p1005 = check-passed (eqb (periodEnding (o .duration) (endMinute body k)) 0) 1004 _ (p13 .1) in
+      let p1006 = check-passed (anyBelow k (λ i. eqb (endMinute body i) (endMinute body k))) 1005 _ (p1005 .1) in
+      let p1008 = check-passed (eqb (r .status) 2 && ltb 9 (quality body k)) 1007 _ (p1006 .1) in
+      let p1009 = check-passed (eqb (r .status) 3) 1008 _ (p1008 .1) in
+      let p1011 = check-passed (between 10 13 (quality body k) && not (eqb (wattHoursAt body k) 0)) 1010 _ (p1009 .1) in
+      let p1012 = check-passed (ltb (r .limit) (wattHoursAt body k)) 1011 0 (p1011 .1) in
       let some-period = eqb-false (periodEnding (o .duration) (endMinute body k)) 0 (p1005 .0) in
       record {
         known-quality = between-true 1 14 (quality body k) .0 (not-false (between 1 14 (quality body k)) (p13 .0));
@@ -276,11 +276,11 @@ module _ (l : Ledger) (n : Lengths) (a : ReceptionCall) (known : durationKnown (
   unfolding inForceCheck bodyCheck
   may-receive long date number none e c = absurd (let z : _≡_ {A = ℕ} 7 0 = c in omega arith)
   may-receive long date number (some r) e c =
-      let p2 = passed-verdict (leb (categories (l .opening)) (r .category)) 1 _ c in
-      let p1001 = passed-verdict (not (eqb (a .sender) (r .sender))) 1000 _ (p2 .1) in
-      let p1002 = passed-verdict (not (eqb (a .quantity) (category (l .opening) (r .category) .quantity))) 1001 _ (p1001 .1) in
-      let p1004 = passed-verdict (not (eqb (a .duration) (l .opening .duration))) 1003 _ (p1002 .1) in
-      let p13 = passed-verdict (not (eqb (length (a .body) % 7) 0)) 12 _ (p1004 .1) in
+      let p2 = verdict-passed (leb (categories (l .opening)) (r .category)) 1 _ c in
+      let p1001 = verdict-passed (not (eqb (a .sender) (r .sender))) 1000 _ (p2 .1) in
+      let p1002 = verdict-passed (not (eqb (a .quantity) (category (l .opening) (r .category) .quantity))) 1001 _ (p1001 .1) in
+      let p1004 = verdict-passed (not (eqb (a .duration) (l .opening .duration))) 1003 _ (p1002 .1) in
+      let p13 = verdict-passed (not (eqb (length (a .body) % 7) 0)) 12 _ (p1004 .1) in
       record {
         long-enough = long;
         a-date = date;
@@ -318,9 +318,9 @@ module _ (l : Ledger) (n : Lengths) (a : ReceptionCall) (known : durationKnown (
   accepted-means : ledgerReceptionCheck l n a .number ≡ 0 → MayReceive l n a
   unfolding ledgerReceptionCheck receptionCheck
   accepted-means e =
-      let p1 = passed-verdict (metersShort (l .opening) n) 0 _ e in
-      let p9 = passed-verdict (leb (dates (l .opening)) (a .date)) 8 _ (p1 .1) in
-      let p6 = passed-verdict (not (mpanValid (a .mpan))) 5 _ (p9 .1) in
+      let p1 = verdict-passed (metersShort (l .opening) n) 0 _ e in
+      let p9 = verdict-passed (leb (dates (l .opening)) (a .date)) 8 _ (p1 .1) in
+      let p6 = verdict-passed (not (mpanValid (a .mpan))) 5 _ (p9 .1) in
       may-receive (p1 .0) (leb-false (dates (l .opening)) (a .date) (p9 .0)) (not-false (mpanValid (a .mpan)) (p6 .0))
       (currentOf (a .date) (meterWith (a .mpan) (l .known))) refl (p6 .1)
 

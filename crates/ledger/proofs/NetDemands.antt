@@ -20,7 +20,7 @@ use Rattle.ledger.specs.Checks.{anyBelow, firstFailed, verdict, recordAt
 use Rattle.ledger.specs.Ledger.{Opening, categories, dates, periods, category, dayType, Ledger, cellBy, cellAt, isRun, dayOf, totalsAt, sideAt, netAt}
 use Rattle.ledger.specs.Engine.{Every}
 use Rattle.ledger.specs.Demands.{OnSide, SideExact, OwnGroupPair, signedTotal, NetTotIsSum, NetOfTotals, OwnGroupNetOfTotals, MarkExact, NothingNetsToZero, SidesExchanged}
-use Rattle.ledger.proofs.Choices.{passed-verdict, neither}
+use Rattle.ledger.proofs.Choices.{verdict-passed, neither}
 use Rattle.ledger.proofs.Receive.{first-passed}
 use Rattle.ledger.proofs.Open.{passed-else}
 use Rattle.ledger.proofs.Demands.{any-false}
@@ -269,7 +269,7 @@ module _ (o : Opening) (short : Bool) (ok : openingCheck (o .duration) (o .meter
   no-key-twice i k h l =
       let later = orElse (firstFailed (dayTypeNumber (o .dayTypes)) (dates o) 0) (verdict (cond short 1 0)) in
       let first = firstFailed (categoryNumber (o .categoryBytes)) (categories o) 0 in
-      let sizes = passed-verdict (not (sizesValid (o .duration) (o .meters) (o .categoryBytes) (o .dayTypes))) 2 (orElse first later) ok in
+      let sizes = verdict-passed (not (sizesValid (o .duration) (o .meters) (o .categoryBytes) (o .dayTypes))) 2 (orElse first later) ok in
       let records = passed-else first later (sizes .1) .0 in
       let bad = not (categoryValid (recordAt (o .categoryBytes) i)) in
       let twice = anyBelow i (λ x. sameKey (o .categoryBytes) x i) in

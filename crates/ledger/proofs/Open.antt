@@ -20,7 +20,7 @@ use Rattle.ledger.specs.Sizes.{settingsLength, metersLength, readingsLen
 use Rattle.ledger.specs.Ledger.{Opening, categories, dates, periods, anyShort, metersShort, settingsShort}
 use Rattle.ledger.specs.Store.{word, wordBytes, durationOf, metersOf, categoriesOf, datesOf, categoryOf, dayTypeOf, mpanAt, registrationIndex, registrationAt, setIndex, isHeldAt}
 use Rattle.ledger.specs.Calls.{openingVerdict, emptied, openedSettings, rowAt}
-use Rattle.ledger.proofs.Choices.{passed-verdict, not-false, neither}
+use Rattle.ledger.proofs.Choices.{verdict-passed, not-false, neither}
 use Rattle.ledger.proofs.Lists.{block-below}
 use Rattle.ledger.proofs.Relation.{Valid, SettingsAgree, FreeAt, MetersAgree, ReadingsAgree, CellsAgree}
 use Rattle.ledger.proofs.Receive.{set-below}
@@ -34,17 +34,17 @@ passed-else a b e =
     (λ q. (eqb-true (a .number) 0 q, rw q at e))
     (λ q. let z : a .number ≡ 0 = rw q at e in absurd (true≢false (sym (eq-eqb (a .number) 0 z) ∙ q)))
 
-pub record Opened (settings meters readings cells : List ℕ) (a : Opening) : Type 0 where
+pub record OpeningAccepted (settings meters readings cells : List ℕ) (a : Opening) : Type 0 where
   pub valid : Valid a
   pub settings-long : settingsLength (length (a .categoryBytes) / 8) (length (a .dayTypes)) ≤ length settings
   pub meters-long : metersLength (a .meters) ≤ length meters
   pub readings-long : readingsLength (a .meters) (length (a .dayTypes)) (periodsPerDay (a .duration)) ≤ length readings
   pub cells-long : cellsLength (length (a .categoryBytes) / 8) (length (a .dayTypes)) (periodsPerDay (a .duration)) ≤ length cells
 
-pub opening-accepted : (settings meters readings cells : List ℕ) (a : Opening) → openingVerdict settings meters readings cells a .number ≡ 0 → Opened settings meters readings cells a
+pub opening-accepted : (settings meters readings cells : List ℕ) (a : Opening) → openingVerdict settings meters readings cells a .number ≡ 0 → OpeningAccepted settings meters readings cells a
 unfolding openingVerdict openingCheck anyShort metersShort settingsShort sizesValid metersInRange categoriesInRange datesInRange
 opening-accepted settings meters readings cells a e =
-    let p3 = passed-verdict (not (durationKnown (a .duration) && between 1 1024 (a .meters) && eqb (length (a .categoryBytes) % 8) 0 && between 1 64 (length (a .categoryBytes) / 8) && between 1 800 (length (a .dayTypes)))) 2 _ e in
+    let p3 = verdict-passed (not (durationKnown (a .duration) && between 1 1024 (a .meters) && eqb (length (a .categoryBytes) % 8) 0 && between 1 64 (length (a .categoryBytes) / 8) && between 1 800 (length (a .dayTypes)))) 2 _ e in
     let p4 = passed-else (firstFailed (categoryNumber (a .categoryBytes)) (length (a .categoryBytes) / 8) 0) _ (p3 .1) in
     let p5 = passed-else (firstFailed (dayTypeNumber (a .dayTypes)) (length (a .dayTypes)) 0) _ (p4 .1) in
     let sizes = not-false _ (p3 .0) in

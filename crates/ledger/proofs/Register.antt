@@ -19,7 +19,7 @@ use Rattle.ledger.specs.Checks.{Registration, RegistrationCall, register
 use Rattle.ledger.specs.Ledger.{Opening, categories, dates, Meter, Ledger, meterWith, changed, registrationsOf, heldFrom, withRegistration, registerIn}
 use Rattle.ledger.specs.Store.{usedFrom, metersOf, datesOf, categoriesOf, periodsOf, mpanAt, slotOf, registrationAt, registrationsAt, knownAt, putRegistration}
 use Rattle.ledger.specs.Calls.{usedOf, slotFor, registrationsFor, heldFromAt, registeredMeters}
-use Rattle.ledger.proofs.Choices.{passed, not-false}
+use Rattle.ledger.proofs.Choices.{check-passed, not-false}
 use Rattle.ledger.proofs.Relation.{SoundRegistrations, SoundMeter, SoundMeters, SettingsAgree, MeterAt, FreeAt, MetersAgree, HeldAt, NotHeldAt, ReadingsAgree, Sound}
 use Rattle.ledger.proofs.Slots.{positionOf, position-new, at-position, free-past, slots-changed, slots-added, slot-is}
 use Rattle.ledger.proofs.Registrations.{SlotSame, meter-stands, free-stands, length-put, put-mpan, put-registration, put-others, put-slots, used-more}
@@ -101,7 +101,7 @@ registration-check l s m r agree metersAgree readingsAgree sound a =
 
 -- ---- what an accepted one tells
 
-pub record Accepted (o : Opening) (known : List Meter) (a : RegistrationCall) : Type 0 where
+pub record RegistrationAccepted (o : Opening) (known : List Meter) (a : RegistrationCall) : Type 0 where
   pub valid : mpanValid (a .mpan) ≡ true
   pub category-is : a .category < categories o
   pub status-is : a .status ≢ 0
@@ -115,13 +115,13 @@ pub registration-accepted : (o : Opening) (known : List Meter) (short : Bool) (a
     registrationCheck short (dates o) (categories o) (leb (o .meters) (length known))
     (heldFrom (dates o) (startOf (a .date) (a .minute)) (meterWith (a .mpan) known))
     (registrationsOf (meterWith (a .mpan) known)) a ≡ 0 →
-    Accepted o known a
+    RegistrationAccepted o known a
 unfolding registrationCheck registrationInRange
 registration-accepted o known short a e =
-    let p1 = passed short 0 _ e in
-    let p9 = passed (leb (dates o) (a .date)) 8 _ (p1 .1) in
-    let p6 = passed (not (mpanValid (a .mpan))) 5 _ (p9 .1) in
-    let p16 = passed (not (leb (a .minute) 1439 && ltb (a .category) (categories o) && between 1 3 (a .status) && ltb (startOf (a .date) (a .minute)) (dates o))) 15 _ (p6 .1) in
+    let p1 = check-passed short 0 _ e in
+    let p9 = check-passed (leb (dates o) (a .date)) 8 _ (p1 .1) in
+    let p6 = check-passed (not (mpanValid (a .mpan))) 5 _ (p9 .1) in
+    let p16 = check-passed (not (leb (a .minute) 1439 && ltb (a .category) (categories o) && between 1 3 (a .status) && ltb (startOf (a .date) (a .minute)) (dates o))) 15 _ (p6 .1) in
     let all = not-false _ (p16 .0) in
     let q = and-eq-true-iff (leb (a .minute) 1439 && ltb (a .category) (categories o) && between 1 3 (a .status)) (ltb (startOf (a .date) (a .minute)) (dates o)) .0 all .0 in
     let w = and-eq-true-iff (leb (a .minute) 1439 && ltb (a .category) (categories o)) (between 1 3 (a .status)) .0 q in
@@ -158,7 +158,7 @@ sound-added C [] m s t = (t, tt)
 sound-added C (x ∷ ms) m s t = (s .0, sound-added C ms m (s .1) t)
 
 module _ (l : Ledger) (s m r : List ℕ) (agree : SettingsAgree (l .opening) s) (metersAgree : MetersAgree (l .opening) m (l .known))
-    (readingsAgree : ReadingsAgree (l .opening) r (l .known)) (sound : Sound l) (a : RegistrationCall) (ok : Accepted (l .opening) (l .known) a) where
+    (readingsAgree : ReadingsAgree (l .opening) r (l .known)) (sound : Sound l) (a : RegistrationCall) (ok : RegistrationAccepted (l .opening) (l .known) a) where
   numbered : a .mpan ≢ 0
   numbered w = let b = mpanValid-bounds (a .mpan) (ok .valid) in omega arith
 
@@ -184,7 +184,7 @@ module _ (l : Ledger) (s m r : List ℕ) (agree : SettingsAgree (l .opening) s) 
     unfolding meterNumber
     room-new =
         let z : meterNumber (leb (l .opening .meters) (length (l .known))) (startOf (a .date) (a .minute)) (heldFrom (dates (l .opening)) (startOf (a .date) (a .minute)) none) none ≡ 0 = rw e at (ok .meter-ok) in
-        leb-false (l .opening .meters) (length (l .known)) (passed (leb (l .opening .meters) (length (l .known))) 7 0 z .0)
+        leb-false (l .opening .meters) (length (l .known)) (check-passed (leb (l .opening .meters) (length (l .known))) 7 0 z .0)
 
     new-meter : Meter
     new-meter = record { mpan = a .mpan; registrations = registered a ∷ []; held = λ d. none }
@@ -267,9 +267,9 @@ module _ (l : Ledger) (s m r : List ℕ) (agree : SettingsAgree (l .opening) s) 
     unfolding meterNumber
     room-known =
         let z : meterNumber (leb (l .opening .meters) (length (l .known))) (startOf (a .date) (a .minute)) (heldFrom (dates (l .opening)) (startOf (a .date) (a .minute)) (some x)) (some (x .registrations)) ≡ 0 = rw e at (ok .meter-ok) in
-        let p10 = passed (notAfterLast (startOf (a .date) (a .minute)) false (x .registrations)) 9 _ z in
-        let p11 = passed (heldFrom (dates (l .opening)) (startOf (a .date) (a .minute)) (some x)) 10 _ (p10 .1) in
-        leb-false 8 (length (x .registrations)) (passed (leb 8 (length (x .registrations))) 11 0 (p11 .1) .0)
+        let p10 = check-passed (notAfterLast (startOf (a .date) (a .minute)) false (x .registrations)) 9 _ z in
+        let p11 = check-passed (heldFrom (dates (l .opening)) (startOf (a .date) (a .minute)) (some x)) 10 _ (p10 .1) in
+        leb-false 8 (length (x .registrations)) (check-passed (leb 8 (length (x .registrations))) 11 0 (p11 .1) .0)
 
     here-known : positionOf (a .mpan) 0 (l .known) < l .opening .meters
     here-known = at-position (l .opening .meters) (MeterAt (l .opening .meters) m) (FreeAt (l .opening .meters) m) (a .mpan) 0 (l .known) x (metersAgree .slots) e .0
@@ -344,17 +344,17 @@ module _ (l : Ledger) (s m r : List ℕ) (agree : SettingsAgree (l .opening) s) 
         })
 
   -- what an accepted registration leaves
-  pub record Left : Type 0 where
+  pub record RegistrationLeft : Type 0 where
     pub meters-agree : MetersAgree (l .opening) (registeredMeters s m r a) (registerIn a (meterWith (a .mpan) (l .known)) (l .known))
     pub readings-agree : ReadingsAgree (l .opening) r (registerIn a (meterWith (a .mpan) (l .known)) (l .known))
     pub sound-meters : SoundMeters (categories (l .opening)) (registerIn a (meterWith (a .mpan) (l .known)) (l .known))
     pub few : length (registerIn a (meterWith (a .mpan) (l .known)) (l .known)) ≤ l .opening .meters
     pub as-long : length (registeredMeters s m r a) ≡ length m
 
-  pub registration-agrees : Left
+  pub registration-agrees : RegistrationLeft
   registration-agrees = go (meterWith (a .mpan) (l .known)) refl
     where
-      go : (x : Option Meter) → meterWith (a .mpan) (l .known) ≡ x → Left
+      go : (x : Option Meter) → meterWith (a .mpan) (l .known) ≡ x → RegistrationLeft
       go none e =
           let w : registeredMeters s m r a ≡ writes 0 = written ∙ rw e in
           let k : registerIn a (meterWith (a .mpan) (l .known)) (l .known) ≡ l .known ++ (new-meter e ∷ []) = (unfold registerIn new-meter in rw e) in

@@ -16,8 +16,8 @@ use borrow.Author.Tests.{eq-eqb, ne-eqb, eqb-true, eqb-false, leb-true, leb-fals
 use Rattle.metering.specs.Sum.{sumBelow, sumBelow-suc}
 use Rattle.ledger.specs.Method.{A, D, E, N, flagNumber, Fresh, Cell, blank, carried, cellFrom, movedCell, Day, latest, cellOn}
 use Rattle.ledger.specs.Table.{tabulate}
-use Rattle.ledger.specs.Store.{rowOf, dayTypeOf, entryOf, flagNumberOf, isRunAt}
-use Rattle.ledger.specs.Calls.{carriedEntry, rowEntry, rowAt, putRow, lastRun, overFrom, seen, differing, Ran, followRow, overAfter, movedInRow, carryOn}
+use Rattle.ledger.specs.Store.{rowLength, dayTypeOf, entryOf, flagNumberOf, isRunAt}
+use Rattle.ledger.specs.Calls.{carriedEntry, rowEntry, rowAt, putRow, lastRun, inheritedFrom, comparedEntry, differing, Ran, followRow, inheritedAfter, movedInRow, carryOn}
 use Rattle.ledger.proofs.Lists.{below-suc, getD-sets-below, getD-sets-above, getD-sets-at, length-tabulate, getD-tabulate, sumBelow-cong, sumBelow-none, none-of-sum, sumBelow-more}
 use Rattle.ledger.proofs.Entries.{Small, SmallFresh, flag-entry, entry-some, moved-entry, unmoved, moved-same, carry-entry, row-entry, follow-entry, over-entry}
 use Rattle.ledger.proofs.Columns.{dayIf, latest-other-type, latest-not-run, latest-run, cell-run, cell-not-run, latest-small, cell-small, latest-before, latest-other, latest-after, cell-alike}
@@ -49,22 +49,22 @@ module _ (n d : ℕ) (row cells : List ℕ) (long : length row ≡ n) (fits : d 
 
 -- ---- the walk over later dates, a branch at a time
 
-module _ (s : List ℕ) (t m : ℕ) (over : ℕ → ℕ) (d : ℕ) (cells : List ℕ) (moved : ℕ) where
-  pub carryOn-end : carryOn s t 0 over d cells moved ≡ record { cells = cells; moved = moved }
+module _ (s : List ℕ) (t m : ℕ) (inherited : ℕ → ℕ) (d : ℕ) (cells : List ℕ) (moved : ℕ) where
+  pub carryOn-end : carryOn s t 0 inherited d cells moved ≡ record { cells = cells; moved = moved }
   unfolding carryOn
   carryOn-end = refl
 
-  pub carryOn-pass : (eqb (dayTypeOf s d) t && isRunAt (rowOf s) cells d) ≡ false → carryOn s t (suc m) over d cells moved ≡ carryOn s t m over (suc d) cells moved
+  pub carryOn-pass : (eqb (dayTypeOf s d) t && isRunAt (rowLength s) cells d) ≡ false → carryOn s t (suc m) inherited d cells moved ≡ carryOn s t m inherited (suc d) cells moved
   unfolding carryOn
   carryOn-pass e = rw e
 
-  pub carryOn-stop : (eqb (dayTypeOf s d) t && isRunAt (rowOf s) cells d) ≡ true → eqb (movedInRow (rowOf s) cells d over) 0 ≡ true → carryOn s t (suc m) over d cells moved ≡ record { cells = cells; moved = moved }
+  pub carryOn-stop : (eqb (dayTypeOf s d) t && isRunAt (rowLength s) cells d) ≡ true → eqb (movedInRow (rowLength s) cells d inherited) 0 ≡ true → carryOn s t (suc m) inherited d cells moved ≡ record { cells = cells; moved = moved }
   unfolding carryOn
   carryOn-stop e q = rw (e, q)
 
-  pub carryOn-go : (eqb (dayTypeOf s d) t && isRunAt (rowOf s) cells d) ≡ true → eqb (movedInRow (rowOf s) cells d over) 0 ≡ false →
-      carryOn s t (suc m) over d cells moved
-      ≡ carryOn s t m (overAfter (rowOf s) cells d over) (suc d) (putRow (rowOf s) d (tabulate (rowOf s) (followRow (rowOf s) cells d over)) cells) (moved + movedInRow (rowOf s) cells d over)
+  pub carryOn-go : (eqb (dayTypeOf s d) t && isRunAt (rowLength s) cells d) ≡ true → eqb (movedInRow (rowLength s) cells d inherited) 0 ≡ false →
+      carryOn s t (suc m) inherited d cells moved
+      ≡ carryOn s t m (inheritedAfter (rowLength s) cells d inherited) (suc d) (putRow (rowLength s) d (tabulate (rowLength s) (followRow (rowLength s) cells d inherited)) cells) (moved + movedInRow (rowLength s) cells d inherited)
   unfolding carryOn
   carryOn-go e q = rw (e, q)
 
@@ -106,7 +106,7 @@ pub record RunLeaves (n T : ℕ) (dt : ℕ → ℕ) (runO runN : ℕ → Bool) (
 
 -- ---- a run at a date: the pictures before and after are alike but there
 
-module _ (s : List ℕ) (n T : ℕ) (dt : ℕ → ℕ) (places : 0 < n) (few : T ≤ 65536) (rowIs : rowOf s ≡ n)
+module _ (s : List ℕ) (n T : ℕ) (dt : ℕ → ℕ) (places : 0 < n) (few : T ≤ 65536) (rowIs : rowLength s ≡ n)
     (types : (d : ℕ) → d < T → dayTypeOf s d ≡ dt d)
     (runO runN : ℕ → Bool) (freshO freshN : ℕ → ℕ → Fresh)
     (smallO : (k x : ℕ) → SmallFresh (freshO k x)) (smallN : (k x : ℕ) → SmallFresh (freshN k x))
@@ -157,11 +157,11 @@ module _ (s : List ℕ) (n T : ℕ) (dt : ℕ → ℕ) (places : 0 < n) (few : T
     as-long : length (r .cells) ≡ L
 
   -- the walk has come to date d: rows before it are new, those from it on are old
-  record Come (L : ℕ) (over : ℕ → ℕ) (d : ℕ) (cells : List ℕ) (moved : ℕ) : Type 0 where
+  record Come (L : ℕ) (inherited : ℕ → ℕ) (d : ℕ) (cells : List ℕ) (moved : ℕ) : Type 0 where
     past : date < d
     new-rows : (x k : ℕ) → x < d → k < n → rowAt n cells x k ≡ codeIf (runN x) (cellN k x)
     old-rows : (x k : ℕ) → d ≤ x → x < T → k < n → rowAt n cells x k ≡ codeIf (runO x) (cellO k x)
-    taken-over : (k : ℕ) → k < n → over k ≡ entryOf (carried (latestN k (dt date) d))
+    inherited-beyond : (k : ℕ) → k < n → inherited k ≡ entryOf (carried (latestN k (dt date) d))
     so-far : moved ≡ sumBelow d movedOn
     as-long : length cells ≡ L
 
@@ -182,15 +182,15 @@ module _ (s : List ℕ) (n T : ℕ) (dt : ℕ → ℕ) (places : 0 < n) (few : T
           ne-eqb (dt date) (dt d)
           (λ q. let z : (true && true) ≡ false = rw (eq-eqb (dt d) (dt date) (sym q), r) at e in true≢false z)
 
-  module _ (L : ℕ) (over : ℕ → ℕ) (d : ℕ) (cells : List ℕ) (moved : ℕ) (c : Come L over d cells moved) (h : d < T) where
+  module _ (L : ℕ) (inherited : ℕ → ℕ) (d : ℕ) (cells : List ℕ) (moved : ℕ) (c : Come L inherited d cells moved) (h : d < T) where
     not-date : d ≢ date
     not-date e = let p = c .past in omega arith
 
-    test-is : (eqb (dayTypeOf s d) (dt date) && isRunAt (rowOf s) cells d) ≡ (eqb (dt d) (dt date) && runO d)
+    test-is : (eqb (dayTypeOf s d) (dt date) && isRunAt (rowLength s) cells d) ≡ (eqb (dt d) (dt date) && runO d)
     test-is = rw (rowIs, types d h, run-at n cells d (runO d) (cellO 0 d) (cellO-small 0 d h) (c .old-rows d 0 (omega arith) h places))
 
     -- a date that is passed over
-    pass-come : (eqb (dt d) (dt date) && runO d) ≡ false → Come L over (suc d) cells moved
+    pass-come : (eqb (dt d) (dt date) && runO d) ≡ false → Come L inherited (suc d) cells moved
     unfolding latestN
     pass-come e =
         let same : (k : ℕ) → cellO k d ≡ cellN k d = λ k. passed-alike k d (c .past) e in
@@ -198,7 +198,7 @@ module _ (s : List ℕ) (n T : ℕ) (dt : ℕ → ℕ) (places : 0 < n) (few : T
           past = let p = c .past in omega arith;
           new-rows = λ x k l m. below-suc (λ y. rowAt n cells y k ≡ codeIf (runN y) (cellN k y)) d (λ y q. c .new-rows y k q m) (c .old-rows d k (omega arith) h m ∙ rw (runAlike d not-date, same k)) x l;
           old-rows = λ x k l m o. c .old-rows x k (omega arith) m o;
-          taken-over = λ k l. c .taken-over k l ∙ ap (λ a. entryOf (carried a)) (sym (still k));
+          inherited-beyond = λ k l. c .inherited-beyond k l ∙ ap (λ a. entryOf (carried a)) (sym (still k));
           so-far = c .so-far ∙ sym (sumBelow-suc d movedOn ∙ rw (moved-none d (λ k l. same k)) (add-zero (sumBelow d movedOn)));
           as-long = c .as-long;
         }
@@ -225,23 +225,23 @@ module _ (s : List ℕ) (n T : ℕ) (dt : ℕ → ℕ) (places : 0 < n) (few : T
       entry-old : (k : ℕ) → k < n → rowAt n cells d k ≡ entryOf (cellFrom d (freshO k d) (latestO k (dt date) d))
       entry-old k l = c .old-rows d k (omega arith) h l ∙ rw (r, old-is k)
 
-      follow-is : (k : ℕ) → k < n → followRow n cells d over k ≡ entryOf (cellN k d)
+      follow-is : (k : ℕ) → k < n → followRow n cells d inherited k ≡ entryOf (cellN k d)
       unfolding followRow
       follow-is k l =
-          rw (entry-old k l, c .taken-over k l, new-is k)
+          rw (entry-old k l, c .inherited-beyond k l, new-is k)
           (follow-entry d (latestO k (dt date) d) (latestN k (dt date) d) (omega arith) (latestO-small k (dt date) d h) (latestN-small k (dt date) d h) (freshO k d) (smallO k d))
 
-      over-is : (k : ℕ) → k < n → overAfter n cells d over k ≡ entryOf (carried (latestN k (dt date) (suc d)))
-      unfolding overAfter
+      over-is : (k : ℕ) → k < n → inheritedAfter n cells d inherited k ≡ entryOf (carried (latestN k (dt date) (suc d)))
+      unfolding inheritedAfter
       over-is k l =
-          rw (entry-old k l, c .taken-over k l)
+          rw (entry-old k l, c .inherited-beyond k l)
           (over-entry d (latestO k (dt date) d) (latestN k (dt date) d) (omega arith) (latestO-small k (dt date) d h) (latestN-small k (dt date) d h) (freshO k d) (smallO k d)
           ∙ ap (λ a. entryOf (carried a)) (sym (next k)))
         where
           next : (k : ℕ) → latestN k (dt date) (suc d) ≡ cellFrom d (freshO k d) (latestN k (dt date) d)
           next k = unfold latestN in latest-run dt (columnDay runN freshN k) (dt date) d (freshO k d) (rw (rN, freshAlike k d not-date)) q
 
-      row-moved : movedInRow n cells d over ≡ movedOn d
+      row-moved : movedInRow n cells d inherited ≡ movedOn d
       unfolding movedInRow differing movedOn
       row-moved =
           sumBelow-cong n _ _
@@ -250,25 +250,25 @@ module _ (s : List ℕ) (n T : ℕ) (dt : ℕ → ℕ) (places : 0 < n) (few : T
       fits : T * n ≤ L → d * n + n ≤ length cells
       fits room = rw (c .as-long) (omega (arith, mul-le-mul-right n h))
 
-      go-come : T * n ≤ L → Come L (overAfter n cells d over) (suc d) (putRow n d (tabulate n (followRow n cells d over)) cells) (moved + movedInRow n cells d over)
+      go-come : T * n ≤ L → Come L (inheritedAfter n cells d inherited) (suc d) (putRow n d (tabulate n (followRow n cells d inherited)) cells) (moved + movedInRow n cells d inherited)
       go-come room =
-          let row = tabulate n (followRow n cells d over) in
-          let long = length-tabulate n (followRow n cells d over) in
+          let row = tabulate n (followRow n cells d inherited) in
+          let long = length-tabulate n (followRow n cells d inherited) in
           record {
             past = let p = c .past in omega arith;
             new-rows = λ x k l m.
                 below-suc (λ y. rowAt n (putRow n d row cells) y k ≡ codeIf (runN y) (cellN k y)) d
                 (λ y w. row-kept n d row cells long (fits room) y k (λ (e : y ≡ d). omega arith) m ∙ c .new-rows y k w m)
-                (row-put n d row cells long (fits room) k m ∙ getD-tabulate n (followRow n cells d over) k m ∙ follow-is k m ∙ rw rN)
+                (row-put n d row cells long (fits room) k m ∙ getD-tabulate n (followRow n cells d inherited) k m ∙ follow-is k m ∙ rw rN)
                 x l;
             old-rows = λ x k l m o. row-kept n d row cells long (fits room) x k (λ (e : x ≡ d). omega arith) o ∙ c .old-rows x k (omega arith) m o;
-            taken-over = λ k l. over-is k l;
+            inherited-beyond = λ k l. over-is k l;
             so-far = rw (c .so-far, row-moved) (sym (sumBelow-suc d movedOn));
             as-long = length-putRow n d row cells long (fits room) ∙ c .as-long;
           }
 
       -- where nothing moved in the row, nothing moves after it
-      still-same : movedInRow n cells d over ≡ 0 → (k : ℕ) → k < n → cellO k d ≡ cellN k d
+      still-same : movedInRow n cells d inherited ≡ 0 → (k : ℕ) → k < n → cellO k d ≡ cellN k d
       still-same z k l =
           unmoved (cellO k d) (cellN k d) (cellO-small k d h) (cellN-small k d h)
           (none-of-sum n (λ y. movedCell (cellO y d) (cellN y d)) (unfold movedOn in (sym row-moved ∙ z)) k l)
@@ -280,7 +280,7 @@ module _ (s : List ℕ) (n T : ℕ) (dt : ℕ → ℕ) (places : 0 < n) (few : T
           ∙ sym (unfold latestO in old-is k) ∙ e ∙ (unfold latestN in new-is k)
           ∙ sym (latest-run dt (columnDay runN freshN k) (dt date) d (freshO k d) (rw (rN, freshAlike k d not-date)) q)
 
-      later-same : movedInRow n cells d over ≡ 0 → (x k : ℕ) → d ≤ x → k < n → cellO k x ≡ cellN k x
+      later-same : movedInRow n cells d inherited ≡ 0 → (x k : ℕ) → d ≤ x → k < n → cellO k x ≡ cellN k x
       unfolding cellO cellN latestO latestN
       later-same z x k l m =
           cases (eqb x d)
@@ -297,7 +297,7 @@ module _ (s : List ℕ) (n T : ℕ) (dt : ℕ → ℕ) (places : 0 < n) (few : T
           gap : (y : ℕ) → d < y → suc d + (y - suc d) ≡ y
           gap y w = omega arith
 
-      stop-good : movedInRow n cells d over ≡ 0 → Good L (record { cells = cells; moved = moved })
+      stop-good : movedInRow n cells d inherited ≡ 0 → Good L (record { cells = cells; moved = moved })
       stop-good z =
           record {
             cells-are = λ x k l m.
@@ -319,32 +319,32 @@ module _ (s : List ℕ) (n T : ℕ) (dt : ℕ → ℕ) (places : 0 < n) (few : T
               gap = omega arith
 
   -- the walk from date d to the last
-  walk : (L : ℕ) → T * n ≤ L → (m : ℕ) (over : ℕ → ℕ) (d : ℕ) (cells : List ℕ) (moved : ℕ) → d + m ≡ T → Come L over d cells moved →
-      Good L (carryOn s (dt date) m over d cells moved)
-  walk L room zero over d cells moved e c =
+  walk : (L : ℕ) → T * n ≤ L → (m : ℕ) (inherited : ℕ → ℕ) (d : ℕ) (cells : List ℕ) (moved : ℕ) → d + m ≡ T → Come L inherited d cells moved →
+      Good L (carryOn s (dt date) m inherited d cells moved)
+  walk L room zero inherited d cells moved e c =
       let at-end : d ≡ T = sym (add-zero d) ∙ e in
-      rw (carryOn-end s (dt date) 0 over d cells moved)
+      rw (carryOn-end s (dt date) 0 inherited d cells moved)
       (record {
         cells-are = λ x k l m. c .new-rows x k (omega arith) m;
         moved-is = c .so-far ∙ ap (λ x. sumBelow x movedOn) at-end;
         as-long = c .as-long;
       })
-  walk L room (suc m) over d cells moved e c =
+  walk L room (suc m) inherited d cells moved e c =
       let h : d < T = omega (arith, e) in
       let e′ : suc d + m ≡ T = suc-add d m ∙ sym (add-suc d m) ∙ e in
       cases (eqb (dt d) (dt date) && runO d)
       (λ b.
       let p = and-eq-true-iff (eqb (dt d) (dt date)) (runO d) .0 b in
-      cases (eqb (movedInRow n cells d over) 0)
+      cases (eqb (movedInRow n cells d inherited) 0)
       (λ z.
-      rw (carryOn-stop s (dt date) m over d cells moved (test-is L over d cells moved c h ∙ b) (rw rowIs z))
-      (stop-good L over d cells moved c h (p .0) (p .1) (eqb-true _ _ z)))
+      rw (carryOn-stop s (dt date) m inherited d cells moved (test-is L inherited d cells moved c h ∙ b) (rw rowIs z))
+      (stop-good L inherited d cells moved c h (p .0) (p .1) (eqb-true _ _ z)))
       (λ z.
-      rw (carryOn-go s (dt date) m over d cells moved (test-is L over d cells moved c h ∙ b) (rw rowIs z), rowIs)
-      (walk L room m _ (suc d) _ _ e′ (go-come L over d cells moved c h (p .0) (p .1) room))))
+      rw (carryOn-go s (dt date) m inherited d cells moved (test-is L inherited d cells moved c h ∙ b) (rw rowIs z), rowIs)
+      (walk L room m _ (suc d) _ _ e′ (go-come L inherited d cells moved c h (p .0) (p .1) room))))
       (λ b.
-      rw (carryOn-pass s (dt date) m over d cells moved (test-is L over d cells moved c h ∙ b))
-      (walk L room m over (suc d) cells moved e′ (pass-come L over d cells moved c h b)))
+      rw (carryOn-pass s (dt date) m inherited d cells moved (test-is L inherited d cells moved c h ∙ b))
+      (walk L room m inherited (suc d) cells moved e′ (pass-come L inherited d cells moved c h b)))
 
   -- ---- the date's own row
 
@@ -358,7 +358,7 @@ module _ (s : List ℕ) (n T : ℕ) (dt : ℕ → ℕ) (places : 0 < n) (few : T
     old-entry d k h l = are d k h l
 
     -- what a date takes over is what is latest before it, carried forward
-    over-from : (t d : ℕ) → d ≤ T → (k : ℕ) → k < n → overFrom n cells (lastRun s cells t d) k ≡ entryOf (carried (latestO k t d))
+    over-from : (t d : ℕ) → d ≤ T → (k : ℕ) → k < n → inheritedFrom n cells (lastRun s cells t d) k ≡ entryOf (carried (latestO k t d))
     over-from t zero h k l = unfold lastRun latestO latest carried blank in refl
     over-from t (suc d) h k l =
         cases (eqb (dt d) t && runO d)
@@ -369,7 +369,7 @@ module _ (s : List ℕ) (n T : ℕ) (dt : ℕ → ℕ) (places : 0 < n) (few : T
         ∙ ap (λ a. entryOf (carried a)) (here t d k (p .0) (p .1))))
         (λ b. rw (last-before t d h b) (over-from t d (omega arith) k l ∙ ap (λ a. entryOf (carried a)) (sym (before t d k b))))
       where
-        test : (t d : ℕ) → d < T → (eqb (dayTypeOf s d) t && isRunAt (rowOf s) cells d) ≡ (eqb (dt d) t && runO d)
+        test : (t d : ℕ) → d < T → (eqb (dayTypeOf s d) t && isRunAt (rowLength s) cells d) ≡ (eqb (dt d) t && runO d)
         test t d h = rw (rowIs, types d h, run-is d h)
 
         last-here : (t d : ℕ) → d < T → (eqb (dt d) t && runO d) ≡ true → lastRun s cells t (suc d) ≡ some d
@@ -393,7 +393,7 @@ module _ (s : List ℕ) (n T : ℕ) (dt : ℕ → ℕ) (places : 0 < n) (few : T
 
     -- the date is run, with its new row
     module _ (h : date < T) (ranN : runN date ≡ true) (new : ℕ → ℕ)
-        (newIs : (k : ℕ) → k < n → new k ≡ rowEntry date (freshN k date) (overFrom n cells (lastRun s cells (dt date) date) k)) where
+        (newIs : (k : ℕ) → k < n → new k ≡ rowEntry date (freshN k date) (inheritedFrom n cells (lastRun s cells (dt date) date) k)) where
       new-entry : (k : ℕ) → k < n → new k ≡ entryOf (cellN k date)
       unfolding cellN
       new-entry k l =
@@ -403,14 +403,14 @@ module _ (s : List ℕ) (n T : ℕ) (dt : ℕ → ℕ) (places : 0 < n) (few : T
           ∙ ap entryOf (sym (unfold latestN in cell-run dt (columnDay runN freshN k) 0 date (freshN k date) (rw ranN)))
 
       -- a date not run counts as blank
-      seen-is : (k : ℕ) → k < n → seen (rowAt n cells date k) ≡ entryOf (cellO k date)
-      unfolding seen
+      seen-is : (k : ℕ) → k < n → comparedEntry (rowAt n cells date k) ≡ entryOf (cellO k date)
+      unfolding comparedEntry
       seen-is k l =
           cases (runO date)
           (λ r. rw (old-entry date k h l, r, ne-eqb (entryOf (cellO k date)) 0 (entry-some (cellO k date))))
           (λ r. rw (old-entry date k h l, r) (ap entryOf (sym (unfold cellO in cell-not-run dt (columnDay runO freshO k) 0 date (rw r)))))
 
-      row-differs : differing n (λ k. seen (rowAt n cells date k)) new ≡ movedOn date
+      row-differs : differing n (λ k. comparedEntry (rowAt n cells date k)) new ≡ movedOn date
       unfolding differing movedOn
       row-differs =
           sumBelow-cong n _ _
@@ -422,7 +422,7 @@ module _ (s : List ℕ) (n T : ℕ) (dt : ℕ → ℕ) (places : 0 < n) (few : T
           cell-alike dt (columnDay runO freshO k) (columnDay runN freshN k) date (alike k) x (λ (e : x ≡ date). omega arith)
           (latest-before dt (columnDay runO freshO k) (columnDay runN freshN k) date (alike k) (dt x) x (omega arith))
 
-      row-come : Come L (λ k. carriedEntry (new k)) (suc date) (putRow n date (tabulate n new) cells) (differing n (λ k. seen (rowAt n cells date k)) new)
+      row-come : Come L (λ k. carriedEntry (new k)) (suc date) (putRow n date (tabulate n new) cells) (differing n (λ k. comparedEntry (rowAt n cells date k)) new)
       row-come =
           let row = tabulate n new in
           let size = length-tabulate n new in
@@ -437,7 +437,7 @@ module _ (s : List ℕ) (n T : ℕ) (dt : ℕ → ℕ) (places : 0 < n) (few : T
                 (row-put n date row cells size fits k m ∙ getD-tabulate n new k m ∙ new-entry k m ∙ rw ranN)
                 x l;
             old-rows = λ x k l m o. row-kept n date row cells size fits x k (λ (e : x ≡ date). omega arith) o ∙ old-entry x k m o;
-            taken-over = λ k l.
+            inherited-beyond = λ k l.
                 ap carriedEntry (new-entry k l) ∙ carry-entry (cellN k date) (cellN-small k date h) ∙ ap (λ a. entryOf (carried a)) (latest-is k);
             so-far =
                 row-differs
@@ -451,11 +451,11 @@ module _ (s : List ℕ) (n T : ℕ) (dt : ℕ → ℕ) (places : 0 < n) (few : T
               (cell-run dt (columnDay runN freshN k) 0 date (freshN k date) (rw ranN)
               ∙ sym (latest-run dt (columnDay runN freshN k) (dt date) date (freshN k date) (rw ranN) (eq-eqb (dt date) (dt date) refl)))
 
-      ran-good : Good L (carryOn s (dt date) (T - suc date) (λ k. carriedEntry (new k)) (suc date) (putRow n date (tabulate n new) cells) (differing n (λ k. seen (rowAt n cells date k)) new))
+      ran-good : Good L (carryOn s (dt date) (T - suc date) (λ k. carriedEntry (new k)) (suc date) (putRow n date (tabulate n new) cells) (differing n (λ k. comparedEntry (rowAt n cells date k)) new))
       ran-good = walk L room (T - suc date) _ (suc date) _ _ (omega arith) row-come
 
       pub run-good :
           RunLeaves n T dt runO runN freshO freshN L
-          (carryOn s (dt date) (T - suc date) (λ k. carriedEntry (new k)) (suc date) (putRow n date (tabulate n new) cells) (differing n (λ k. seen (rowAt n cells date k)) new))
+          (carryOn s (dt date) (T - suc date) (λ k. carriedEntry (new k)) (suc date) (putRow n date (tabulate n new) cells) (differing n (λ k. comparedEntry (rowAt n cells date k)) new))
       unfolding movedOn cellO cellN
       run-good = record { cells-are = ran-good .cells-are; moved-is = ran-good .moved-is; as-long = ran-good .as-long }

@@ -18,10 +18,10 @@ use Rattle.metering.specs.Calendar.{periodsPerDay}
 use Rattle.ledger.specs.Method.{Category, isSmart, sameFamily, ReadingSet, Picture, wattHours, present, total, freshOf, freshIn, cellOn}
 use Rattle.ledger.specs.Checks.{Registration, later, inForceAfter, inForce}
 use Rattle.ledger.specs.Sizes.{cellsLength}
-use Rattle.ledger.specs.Ledger.{Opening, categories, dates, periods, category, dayType, Meter, Ledger, at, dayOf, cellBy, isPicture, entriesOf, pictureOf, movedBetween}
+use Rattle.ledger.specs.Ledger.{Opening, categories, dates, periods, category, dayType, Meter, Ledger, at, dayOf, cellBy, isPicture, heldSetsOf, pictureOf, movedBetween}
 use Rattle.ledger.specs.Table.{tabulate}
-use Rattle.ledger.specs.Store.{periodsOf, rowOf, categoryOf}
-use Rattle.ledger.specs.Calls.{familyTally, freshAt, carriedEntry, rowEntry, rowAt, putRow, lastRun, overFrom, seen, differing, carryOn, newRow, ranFrom}
+use Rattle.ledger.specs.Store.{periodsOf, rowLength, categoryOf}
+use Rattle.ledger.specs.Calls.{familyTally, freshAt, carriedEntry, rowEntry, rowAt, putRow, lastRun, inheritedFrom, comparedEntry, differing, carryOn, newRow, ranFrom}
 use Rattle.ledger.proofs.Lists.{sumBelow-cong, sumBelow-rows}
 use Rattle.ledger.proofs.Entries.{SmallFresh}
 use Rattle.ledger.proofs.Columns.{dayIf}
@@ -80,14 +80,14 @@ pub picture-sound : (C date : ℕ) (ms : List Meter) → SoundMeters C ms → So
 unfolding pictureOf inForce
 picture-sound C date [] s = tt
 picture-sound C date (m ∷ ms) s =
-    sound-append C (entriesOf (m .held date) (inForceAfter date none (m .registrations))) (pictureOf date ms) (entry (m .held date) refl (inForceAfter date none (m .registrations)) (force-named C date none (m .registrations) tt (s .0 .registered))) (picture-sound C date ms (s .1))
+    sound-append C (heldSetsOf (m .held date) (inForceAfter date none (m .registrations))) (pictureOf date ms) (entry (m .held date) refl (inForceAfter date none (m .registrations)) (force-named C date none (m .registrations) tt (s .0 .registered))) (picture-sound C date ms (s .1))
   where
-    entry : (x : Option ReadingSet) → m .held date ≡ x → (r : Option Registration) → Named C r → SoundPicture C (entriesOf x r)
+    entry : (x : Option ReadingSet) → m .held date ≡ x → (r : Option Registration) → Named C r → SoundPicture C (heldSetsOf x r)
     entry none e r n = tt
     entry (some x) e none n = tt
     entry (some x) e (some r) n = (n, s .0 .small date x e, tt)
 
-entries-le : (x : Option ReadingSet) (r : Option Registration) → length (entriesOf x r) ≤ 1
+entries-le : (x : Option ReadingSet) (r : Option Registration) → length (heldSetsOf x r) ≤ 1
 entries-le none r = zero-le
 entries-le (some x) none = zero-le
 entries-le (some x) (some r) = omega arith
@@ -96,7 +96,7 @@ pub picture-le : (date : ℕ) (ms : List Meter) → length (pictureOf date ms) �
 unfolding pictureOf
 picture-le date [] = zero-le
 picture-le date (m ∷ ms) =
-    rw (length-append (entriesOf (m .held date) (inForce date (m .registrations))) (pictureOf date ms))
+    rw (length-append (heldSetsOf (m .held date) (inForce date (m .registrations))) (pictureOf date ms))
     (let h = picture-le date ms in let e = entries-le (m .held date) (inForce date (m .registrations)) in omega arith)
 
 -- ---- what the store's sums give is the picture's own shape
@@ -165,8 +165,8 @@ module _ (l : Ledger) (s meters readings cells : List ℕ) (sound : Sound l) (ag
       ))
       (λ q. sound .pictures-are d p (rw q at e))
 
-  row-is : rowOf s ≡ categories (l .opening) * periods (l .opening)
-  unfolding rowOf periodsOf
+  row-is : rowLength s ≡ categories (l .opening) * periods (l .opening)
+  unfolding rowLength periodsOf
   row-is = rw (agree .categories-are, agree .duration)
 
   places : 0 < categories (l .opening) * periods (l .opening)
@@ -190,7 +190,7 @@ module _ (l : Ledger) (s meters readings cells : List ℕ) (sound : Sound l) (ag
   new-is : (k : ℕ) → k < categories (l .opening) * periods (l .opening) →
       newRow s meters readings cells date k
       ≡ rowEntry date (shapes (l .opening) (at date (some (pictureOf date (l .known))) (l .pictures)) k date)
-      (overFrom (categories (l .opening) * periods (l .opening)) cells (lastRun s cells (dayType (l .opening) date) date) k)
+      (inheritedFrom (categories (l .opening) * periods (l .opening)) cells (lastRun s cells (dayType (l .opening) date) date) k)
   unfolding newRow periodsOf at
   new-is k m =
       let p = valid-periods (l .opening) (sound .valid) in
@@ -198,7 +198,7 @@ module _ (l : Ledger) (s meters readings cells : List ℕ) (sound : Sound l) (ag
       (ap
       (λ f.
       rowEntry date f
-      (overFrom (categories (l .opening) * periods (l .opening)) cells (lastRun s cells (dayType (l .opening) date) date) k))
+      (inheritedFrom (categories (l .opening) * periods (l .opening)) cells (lastRun s cells (dayType (l .opening) date) date) k))
       (fresh-is (l .opening) s meters readings (l .known) agree metersAgree readingsAgree (sound .meters) date h
       (k / periods (l .opening))
       (suc (k % periods (l .opening)))
@@ -209,7 +209,7 @@ module _ (l : Ledger) (s meters readings cells : List ℕ) (sound : Sound l) (ag
   ran-is : ranFrom s meters readings cells date
       ≡ carryOn s (dayType (l .opening) date) (dates (l .opening) - suc date) (λ k. carriedEntry (newRow s meters readings cells date k)) (suc date)
       (putRow (categories (l .opening) * periods (l .opening)) date (tabulate (categories (l .opening) * periods (l .opening)) (newRow s meters readings cells date)) cells)
-      (differing (categories (l .opening) * periods (l .opening)) (λ k. seen (rowAt (categories (l .opening) * periods (l .opening)) cells date k)) (newRow s meters readings cells date))
+      (differing (categories (l .opening) * periods (l .opening)) (λ k. comparedEntry (rowAt (categories (l .opening) * periods (l .opening)) cells date k)) (newRow s meters readings cells date))
   unfolding ranFrom
   ran-is = rw (row-is, agree .types date h, agree .dates-are)
 

@@ -13,7 +13,7 @@ use Rattle.ledger.specs.Method.{Picture, wattHours, present, total}
 use Rattle.ledger.proofs.Lists.{sumBelow-cong, sumBelow-none, sumBelow-plus, sumBelow-one}
 use Rattle.ledger.specs.Method.{ReadingSet}
 use Rattle.ledger.specs.Checks.{Registration, inForce}
-use Rattle.ledger.specs.Ledger.{Opening, dates, periods, Meter, isHeld, entriesOf, pictureOf}
+use Rattle.ledger.specs.Ledger.{Opening, dates, periods, Meter, isHeld, heldSetsOf, pictureOf}
 use Rattle.ledger.specs.Store.{metersOf, periodsOf, isHeldAt, readingAt, registrationsAt}
 use Rattle.ledger.specs.Calls.{names, countsFor, tally}
 use Rattle.ledger.proofs.Relation.{SoundPicture, SettingsAgree, MeterAt, MetersFrom, MetersAgree, HeldAt, HeldFrom, ReadingsAgree}
@@ -99,20 +99,20 @@ module _ (o : Opening) (s meters readings : List ℕ) (agree : SettingsAgree o s
   free-adds i e = adds-is i ∙ rw e
 
   meter-adds : (i : ℕ) (m : Meter) → MeterAt (o .meters) meters i m → HeldAt o readings i m →
-      adds i ≡ total measure (eqb c) (entriesOf (m .held date) (inForce date (m .registrations))) j
+      adds i ≡ total measure (eqb c) (heldSetsOf (m .held date) (inForce date (m .registrations))) j
   unfolding total
   meter-adds i m a b =
       adds-is i
       ∙ rw (b .marks date h, a .are)
       ((elim (m .held date) as (λ x. m .held date ≡ x →
       cond (isHeld x && names c (inForce date (m .registrations))) (measure (readingAt (o .meters) (periods o) readings date i j)) 0
-      ≡ total measure (eqb c) (entriesOf x (inForce date (m .registrations))) j) [
+      ≡ total measure (eqb c) (heldSetsOf x (inForce date (m .registrations))) j) [
         | none ↦ λ e. refl
         | some x ↦ λ e. rw (b .sets date x h e j low high) (of-set x (inForce date (m .registrations)))
       ]) refl)
     where
       of-set : (x : ReadingSet) (r : Option Registration) →
-          cond (isHeld (some x) && names c r) (measure (x j)) 0 ≡ total measure (eqb c) (entriesOf (some x) r) j
+          cond (isHeld (some x) && names c r) (measure (x j)) 0 ≡ total measure (eqb c) (heldSetsOf (some x) r) j
       of-set x none = refl
       of-set x (some r) = sym (add-zero _)
 
@@ -124,10 +124,10 @@ module _ (o : Opening) (s meters readings : List ℕ) (agree : SettingsAgree o s
   slots-add (m ∷ ms) i (suc n) e a b =
       sumBelow-front n (λ k. adds (i + k))
       ∙ rw (add-zero i, meter-adds i m (a .1) (b .1))
-      (ap (λ x. total measure (eqb c) (entriesOf (m .held date) (inForce date (m .registrations))) j + x)
+      (ap (λ x. total measure (eqb c) (heldSetsOf (m .held date) (inForce date (m .registrations))) j + x)
       (sumBelow-cong n _ (λ k. adds (suc i + k)) (λ k l. ap adds (add-suc i k ∙ sym (suc-add i k)))
       ∙ slots-add ms (suc i) n (suc-add i n ∙ sym (add-suc i n) ∙ e) (a .2) (b .2))
-      ∙ sym (total-append measure (eqb c) (entriesOf (m .held date) (inForce date (m .registrations))) (pictureOf date ms) j)
+      ∙ sym (total-append measure (eqb c) (heldSetsOf (m .held date) (inForce date (m .registrations))) (pictureOf date ms) j)
       ∙ (unfold pictureOf in refl))
 
   -- s and n of a category

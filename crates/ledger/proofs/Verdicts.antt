@@ -108,8 +108,8 @@ failing f n i r w h e ne p =
 pub passing : (f : ℕ → ℕ) (n i r : ℕ) (w : Verdict) → i < n → r ≡ f i → r ≡ 0 → firstFailed f (n - i) i ≡ w → firstFailed f (n - (i + 1)) (i + 1) ≡ w
 passing f n i r w h e z p = sym (failed-pass f n i h (sym e ∙ z)) ∙ p
 
-pub passed : (f : ℕ → ℕ) (n i : ℕ) (w : Verdict) → n ≤ i → firstFailed f (n - i) i ≡ w → accepted ≡ answer w accepted
-passed f n i w h p = rw (← p, failed-end f n i h) (sym (answer-none (verdict 0) accepted refl))
+pub first-passed : (f : ℕ → ℕ) (n i : ℕ) (w : Verdict) → n ≤ i → firstFailed f (n - i) i ≡ w → accepted ≡ answer w accepted
+first-passed f n i w h p = rw (← p, failed-end f n i h) (sym (answer-none (verdict 0) accepted refl))
 
 -- whether something holds below n
 

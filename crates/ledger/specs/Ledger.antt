@@ -203,15 +203,15 @@ isRun l d = isPicture (l .pictures d)
 unfoldable pub ledgerRunCheck : Ledger → Lengths → ℕ → Verdict
 ledgerRunCheck l n date = verdict (runCheck (anyShort (l .opening) n) (dates (l .opening)) date)
 
-abbrev pub entriesOf : Option ReadingSet → Option Registration → Picture
-entriesOf none r = []
-entriesOf (some s) none = []
-entriesOf (some s) (some r) = record { category = r .category; readings = s } ∷ []
+abbrev pub heldSetsOf : Option ReadingSet → Option Registration → Picture
+heldSetsOf none r = []
+heldSetsOf (some s) none = []
+heldSetsOf (some s) (some r) = record { category = r .category; readings = s } ∷ []
 
 -- the sets held on a date, with the categories of their meters
 unfoldable pub pictureOf : ℕ → List Meter → Picture
 pictureOf date [] = []
-pictureOf date (m ∷ ms) = entriesOf (m .held date) (inForce date (m .registrations)) ++ pictureOf date ms
+pictureOf date (m ∷ ms) = heldSetsOf (m .held date) (inForce date (m .registrations)) ++ pictureOf date ms
 
 unfoldable pub afterRun : Ledger → ℕ → Ledger
 afterRun l date =

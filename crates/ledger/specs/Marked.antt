@@ -12,7 +12,7 @@ use Rattle.metering.specs.Mpan.{mpanValid, checkDigit, weightedSum, product, di
 use Rattle.metering.specs.Average.{average, annual}
 use Rattle.metering.specs.Range.{between}
 use Rattle.metering.specs.Calendar.{periodsPerDay, periodEnding, liesWithin, windowStart, windowEnd}
-use Rattle.ledger.specs.Method.{Category, categoryAt, isSmart, sameFamily, Entry, Picture, total, freshOf, freshIn, Cell, D, blank, carried, cellFrom, ran, pass, latest, cellOf, cellOn, sameCell, movedCell, overRunDates, totOn, offOn, peakOn, totalsOn}
+use Rattle.ledger.specs.Method.{Category, categoryAt, isSmart, sameFamily, HeldSet, Picture, total, freshOf, freshIn, Cell, D, blank, carried, cellFrom, ran, afterDate, latest, cellOf, cellOn, sameCell, movedCell, overRunDates, totOn, offOn, peakOn, totalsOn}
 use Rattle.ledger.specs.Table.{tabulate}
 use Rattle.ledger.specs.Net.{onSide, chosenBelow, sideOf, sumOver, anyOf, signedSum, netPeriod, markOf, netTot, netTot7, netOn}
 use Rattle.ledger.specs.Checks.{firstFailed, anyBelow, recordNumber, endMinute, quality, wattHoursAt, startOf, later, inForceAfter, inForce, notAfterLast, registrationInRange, meterNumber, registrationCheck, bodyCheck, inForceCheck, receptionCheck, isReading, readingIn, runCheck, readCheck, totalsInRange, cellInRange, resultsShort, mayNet, netCheck}
@@ -36,7 +36,7 @@ smart g m = record { segment = 1; group = g; domestic = 1; quantity = 1; connect
 abbrev pub twoGroups : ℕ → ℕ → Category
 twoGroups m c = smart (suc c) m
 
-abbrev pub reads : ℕ → ℕ → Entry
+abbrev pub reads : ℕ → ℕ → HeldSet
 reads c w = record { category = c; readings = λ j. some w }
 
 -- the cell of date 0, run with a picture
@@ -182,5 +182,5 @@ netAnswers =
 pub worked-examples :
     (ledgerRun (start exampleOpening) (record { settings = 18; meters = 41; readings = 98; cells = 96 }) exampleCalls ≡ exampleAnswers)
     × (ledgerRun (start netOpening) (record { settings = 42; meters = 123; readings = 294; cells = 384 }) netCalls ≡ netAnswers)
-unfolding ledgerRun start ledgerAnswer ledgerAfter answer left settingsShort metersShort cellsShort anyShort meterWith changed heldFrom ledgerRegistrationCheck registerIn afterRegistration ledgerReceptionCheck setOf at afterReception cellBy cellAt isRun ledgerRunCheck pictureOf afterRun movedBetween ledgerTotalsCheck ledgerCellCheck totalsAt settingsLength metersLength readingsLength cellsLength firstFailed startOf later inForceAfter inForce notAfterLast registrationInRange meterNumber registrationCheck bodyCheck inForceCheck receptionCheck isReading readingIn runCheck readCheck totalsInRange cellInRange movedCell overRunDates totOn offOn peakOn totalsOn categoryAt mpanValid checkDigit weightedSum product digit weights sumBelow average annual recordNumber periodEnding periodsPerDay liesWithin windowStart windowEnd between sameCell blank cellOn cellOf cellFrom latest pass freshIn freshOf total isSmart sameFamily anyBelow endMinute quality wattHoursAt carried netCheck resultsShort mayNet ledgerNetCheck sideAt netAt onSide chosenBelow sideOf sumOver anyOf signedSum netPeriod markOf netTot netTot7 netOn tabulate
+unfolding ledgerRun start ledgerAnswer ledgerAfter answer left settingsShort metersShort cellsShort anyShort meterWith changed heldFrom ledgerRegistrationCheck registerIn afterRegistration ledgerReceptionCheck setOf at afterReception cellBy cellAt isRun ledgerRunCheck pictureOf afterRun movedBetween ledgerTotalsCheck ledgerCellCheck totalsAt settingsLength metersLength readingsLength cellsLength firstFailed startOf later inForceAfter inForce notAfterLast registrationInRange meterNumber registrationCheck bodyCheck inForceCheck receptionCheck isReading readingIn runCheck readCheck totalsInRange cellInRange movedCell overRunDates totOn offOn peakOn totalsOn categoryAt mpanValid checkDigit weightedSum product digit weights sumBelow average annual recordNumber periodEnding periodsPerDay liesWithin windowStart windowEnd between sameCell blank cellOn cellOf cellFrom latest afterDate freshIn freshOf total isSmart sameFamily anyBelow endMinute quality wattHoursAt carried netCheck resultsShort mayNet ledgerNetCheck sideAt netAt onSide chosenBelow sideOf sumOver anyOf signedSum netPeriod markOf netTot netTot7 netOn tabulate
 worked-examples = (refl, refl)

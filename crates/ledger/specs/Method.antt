@@ -50,13 +50,13 @@ abbrev pub ReadingSet : Type 0
 ReadingSet = ℕ → Option ℕ
 
 -- a set held on a date, with the category of its meter
-pub record Entry : Type 0 where
+pub record HeldSet : Type 0 where
   pub category : ℕ
   pub readings : ReadingSet
 
 -- the paper's "picture": the sets held on a date when it was run
 abbrev pub Picture : Type 0
-Picture = List Entry
+Picture = List HeldSet
 
 abbrev pub wattHours : Option ℕ → ℕ
 wattHours none = 0
@@ -133,14 +133,14 @@ pub data Day : Type 0 where
   ran : Fresh → Day
 
 -- going past date d: a run date of the day type looked for puts its cell in place of the one before
-unfoldable pub pass : ℕ → Day → Bool → Cell → Cell
-pass d notRun ofType before = before
-pass d (ran f) ofType before = cond ofType (cellFrom d f before) before
+unfoldable pub afterDate : ℕ → Day → Bool → Cell → Cell
+afterDate d notRun ofType before = before
+afterDate d (ran f) ofType before = cond ofType (cellFrom d f before) before
 
 -- the cell of the nearest run date before d with day type t, found by going through the dates upward; blank where there is none
 unfoldable pub latest : (ℕ → ℕ) → (ℕ → Day) → ℕ → ℕ → Cell
 latest dayType day t zero = blank
-latest dayType day t (suc d) = pass d (day d) (eqb (dayType d) t) (latest dayType day t d)
+latest dayType day t (suc d) = afterDate d (day d) (eqb (dayType d) t) (latest dayType day t d)
 
 -- the cell of date d, whose predecessor's cell is given; a date not run has the blank one
 unfoldable pub cellOf : ℕ → Day → Cell → Cell

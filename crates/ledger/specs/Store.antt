@@ -36,8 +36,8 @@ unfoldable pub periodsOf : List ℕ → ℕ
 periodsOf s = periodsPerDay (durationOf s)
 
 -- how many cells a date has
-unfoldable pub rowOf : List ℕ → ℕ
-rowOf s = categoriesOf s * periodsOf s
+unfoldable pub rowLength : List ℕ → ℕ
+rowLength s = categoriesOf s * periodsOf s
 
 unfoldable pub categoryOf : List ℕ → ℕ → Category
 categoryOf s c = categoryAt (drop 8 s) c

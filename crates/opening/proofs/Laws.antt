@@ -8,9 +8,9 @@ use lib.ListN.{length}
 use borrow.Table.Steps.{cases}
 use Rattle.ledger.specs.Checks.{verdict, firstFailed, orElse, categoryNumber, dayTypeNumber, sizesValid, openingCheck}
 use Rattle.ledger.specs.Ledger.{anyShort, answer, accepted, refused, Opening}
-use Rattle.ledger.specs.Calls.{openingVerdict, openedSettings, openedMeters, openedReadings, openedCells}
+use Rattle.ledger.specs.Calls.{openingVerdict, openedSettings, openedMeters, openedReadings, openedCells, Opened}
 use Rattle.ledger.proofs.Open as open-step
-use Rattle.opening.specs.Opening.{lengths, Opened}
+use Rattle.opening.specs.Opening.{lengths}
 use Rattle.ledger.proofs.Verdicts.{left-none, left-some, accepted-none, refused-some, or-refused, or-accepted}
 
 -- the checks, one after the other
@@ -58,7 +58,7 @@ pub valid-of : (S M R C : List ℕ) (a : Opening) → accepted ≡ answer (openi
 unfolding openingVerdict
 valid-of S M R C a e = valid-passed _ _ _ _ _ (accepted-none _ e)
 
-pub long-of : (S M R C : List ℕ) (a : Opening) → accepted ≡ answer (openingVerdict S M R C a) accepted → open-step.Opened S M R C a
+pub long-of : (S M R C : List ℕ) (a : Opening) → accepted ≡ answer (openingVerdict S M R C a) accepted → open-step.OpeningAccepted S M R C a
 long-of S M R C a e = open-step.opening-accepted S M R C a (accepted-none _ e)
 
 -- a refused opening leaves each part as it was

@@ -14,7 +14,8 @@ ghost use Prim.Native.Nat.{_+_, _*_, _/_, _≤_, _<_};
 ghost use lib.ListN.{length};
 ghost use Rattle.store.specs.Outcome.{answerOf};
 ghost use Rattle.store.specs.Settings.{openingCall};
-ghost use Rattle.opening.specs.Opening.{lengths, Opened};
+ghost use Rattle.opening.specs.Opening.{lengths};
+ghost use Rattle.ledger.specs.Calls.{Opened};
 ghost use Rattle.ledger.specs.Checks.{sameKey, anyBelow, categoryNumber, dayTypeNumber, firstFailed, sizesValid, openingCheck};
 ghost use Rattle.ledger.specs.Ledger.{anyShort, answer, accepted};
 

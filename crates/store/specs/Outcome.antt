@@ -1,8 +1,56 @@
--- The scope paper's number and place of each outcome.
-use Rattle.ledger.specs.Ledger.{Answer, accepted, refused}
+-- What each call hands out, as the ledger's answer: the scope paper's number and values for each case.
+use Prim.Native.Nat.{ℕ}
+use mathlib.Core.List.{List}
+use lib.IntN.{ℤ}
+use lib.ListN.{take}
+use Rattle.ledger.specs.Method as method
+use Rattle.ledger.specs.Ledger.{Answer, refused, accepted, moved, totalsAre, cellIs, netIs}
+use Rattle.store.specs.Cell.{cellMeant}
 use Rattle.store.specs.declared.outcome.Outcome.{Outcome}
-use Rattle.store.specs.declared.outcome.Outcome.the-variants.{Accepted, Refused}
+use Rattle.store.specs.declared.outcome.Outcome.the-variants as outcome
+use Rattle.store.specs.declared.outcome.RunOutcome.{RunOutcome}
+use Rattle.store.specs.declared.outcome.RunOutcome.the-variants as run
+use Rattle.store.specs.declared.outcome.Totals.{Totals}
+use Rattle.store.specs.declared.outcome.TotalsOutcome.{TotalsOutcome}
+use Rattle.store.specs.declared.outcome.TotalsOutcome.the-variants as totals
+use Rattle.store.specs.declared.outcome.CellOutcome.{CellOutcome}
+use Rattle.store.specs.declared.outcome.CellOutcome.the-variants as cell
+use Rattle.store.specs.declared.outcome.NetOutcome.{NetOutcome}
+use Rattle.store.specs.declared.outcome.NetOutcome.the-variants as net
 
 abbrev pub answerOf : Outcome → Answer
-answerOf Accepted = accepted
-answerOf (Refused number place) = refused number place
+answerOf outcome.Accepted = accepted
+answerOf (outcome.Refused number place) = refused number place
+
+abbrev pub runAnswer : RunOutcome → Answer
+runAnswer (run.Moved m) = moved m
+runAnswer (run.Refused number place) = refused number place
+
+abbrev pub totalsMeant : Totals → method.Totals
+totalsMeant t =
+    record {
+      tot = t .tot;
+      off = t .off;
+      peak = t .peak;
+      tot7 = t .tot7;
+      off7 = t .off7;
+      peak7 = t .peak7;
+      days7 = t .days7;
+      ann = t .ann;
+      days = t .days;
+      fresh = t .fresh;
+      blanks = t .blanks;
+    }
+
+abbrev pub totalsAnswer : TotalsOutcome → Answer
+totalsAnswer (totals.Totals t) = totalsAre (totalsMeant t)
+totalsAnswer (totals.Refused number place) = refused number place
+
+abbrev pub cellAnswer : CellOutcome → Answer
+cellAnswer (cell.Cell a) = cellIs (cellMeant a)
+cellAnswer (cell.Refused number place) = refused number place
+
+-- net TOT and TOT7 as returned, the first P numbers and marks as the lists then have them
+abbrev pub netAnswer : ℕ → NetOutcome → List ℤ → List ℕ → Answer
+netAnswer P (net.Net n) numbers marks = netIs (record { tot = n .tot; tot7 = n .tot7; periods = take P numbers; marks = take P marks })
+netAnswer P (net.Refused number place) numbers marks = refused number place

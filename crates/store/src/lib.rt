@@ -3,6 +3,7 @@ pub mod access;
 pub mod category;
 pub mod cell;
 pub mod entry;
+pub mod lent;
 pub mod meters;
 pub mod outcome;
 pub mod readings;

@@ -1,5 +1,49 @@
-// The answer of a call that gives nothing but acceptance.
+// What each call answers. Every refusal has its number and place.
+use crate::cell::Cell;
+
+// A call that gives nothing but acceptance: opening, registration, reception.
 pub enum Outcome {
     Accepted,
+    Refused { number: u64, place: u64 },
+}
+
+// How many cells moved.
+pub enum RunOutcome {
+    Moved(u64),
+    Refused { number: u64, place: u64 },
+}
+
+pub enum CellOutcome {
+    Cell(Cell),
+    Refused { number: u64, place: u64 },
+}
+
+pub struct Totals {
+    pub tot: u64,
+    pub off: u64,
+    pub peak: u64,
+    pub tot7: u64,
+    pub off7: u64,
+    pub peak7: u64,
+    pub days7: u64,
+    pub ann: u64,
+    pub days: u64,
+    pub fresh: u64,
+    pub blanks: u64,
+}
+
+pub enum TotalsOutcome {
+    Totals(Totals),
+    Refused { number: u64, place: u64 },
+}
+
+// Net TOT and net TOT7; the periods' nets and marks stand in the lists lent for them.
+pub struct Net {
+    pub tot: i64,
+    pub tot7: i64,
+}
+
+pub enum NetOutcome {
+    Net(Net),
     Refused { number: u64, place: u64 },
 }

@@ -5,7 +5,7 @@ use native.Mathlib.Omega.{arith}
 use native.Mathlib.Nat.{sub-zero}
 use lib.ListN.{length}
 use Rattle.ledger.specs.Checks.{firstFailed, categoryNumber}
-use Rattle.ledger.proofs.Verdicts.{failing, passing, passed}
+use Rattle.ledger.proofs.Verdicts.{failing, passing, first-passed}
 use Rattle.opening.proofs.categories_checked.Statement.{statement}
 use Rattle.opening.proofs.categories_checked.Tie as tie
 
@@ -39,7 +39,7 @@ loop-again c = let l = c .before .before .before .loop in
     (omega arith, passing _ _ (l .i) _ _ (c .before .before .loop-test .taken) (c .before .category-number .ensures) (c .if1 .left) (l .inv .1))
 
 returns-2 : tie.Need-returns-2 Inv-loop μ-loop
-returns-2 c = passed _ _ _ _ (c .loop-test .left) (c .before .loop .inv .1)
+returns-2 c = first-passed _ _ _ _ (c .loop-test .left) (c .before .loop .inv .1)
 
 pub categories-checked-spec : {M : Type 1} → statement M
 categories-checked-spec =

@@ -9,7 +9,7 @@ use Rattle.store.specs.Outcome.{answerOf}
 use Rattle.store.specs.Settings.{openingCall}
 use Rattle.store.proofs.WritingLaws.{Sized, sized}
 use Rattle.ledger.specs.Checks.{sizesValid}
-use Rattle.ledger.proofs.Open.{Opened}
+use Rattle.ledger.proofs.Open.{OpeningAccepted}
 use mathlib.Core.Bool.{true}
 use Rattle.opening.proofs.Laws.{valid-of, long-of, opening-refused, opening-done, verdict-of}
 use borrow.Author.Needs.{needs}
@@ -32,7 +32,7 @@ valid : (c : tie.After-enum-told) → sizesValid (call c .duration) (call c .met
 valid c = valid-of _ _ _ _ _ (told c)
 
 long : (c : tie.After-enum-told) → let a = c .before .before .before .before .before .before .before .before .before .args in
-    Opened (now (a .settings)) (now (a .meters)) (now (a .readings)) (now (a .cells)) (call c)
+    OpeningAccepted (now (a .settings)) (now (a .meters)) (now (a .readings)) (now (a .cells)) (call c)
 long c = long-of _ _ _ _ _ (told c)
 
 sizes : (c : tie.After-enum-told) → Sized (call c .duration) (call c .meters) (call c .categoryBytes) (call c .dayTypes)

@@ -4,7 +4,7 @@ use Prim.Native.Nat.{_+_, _*_, _-_, _≤_}
 use mathlib.Core.Path.{_≡_, sym}
 use native.Mathlib.Omega.{arith}
 use lib.ListN.{length, take}
-use Rattle.commands.specs.Operands.{bodyOf}
+use Rattle.input.specs.Operands.{bodyOf}
 use Rattle.console.proofs.Laws.{no-bodies, part-length, body-step}
 use Rattle.console.proofs.calls.gather.Statement.{statement}
 use Rattle.console.proofs.calls.gather.Tie as tie

@@ -7,8 +7,8 @@ use borrow.Author.Needs.{needs}
 use Rattle.console.proofs.calls.open.Statement.{statement}
 use Rattle.console.proofs.calls.open.Tie as tie
 
-opening-at-requires : tie.Need-opening-at-requires
-opening-at-requires c κs = search needs
+opening-operands-requires : tie.Need-opening-operands-requires
+opening-operands-requires c κs = search needs
 
 parts-suffice-requires : tie.Need-parts-suffice-requires
 parts-suffice-requires c κs = search needs
@@ -36,7 +36,7 @@ same-length-5 c = search needs
 
 returns : tie.Need-returns
 returns c =
-    let given = c .before .before .before .before .before .before .before .before .before .before .before .before .before .before .before .before .before .before .before .opening-at .ensures in
+    let given = c .before .before .before .before .before .before .before .before .before .before .before .before .before .before .before .before .before .before .before .opening-operands .ensures in
     let enough = rw given at (sym (c .before .before .before .before .before .before .before .before .before .before .before .before .before .before .before .before .before .before .parts-suffice .ensures) ∙ c .before .before .before .before .before .before .before .before .before .before .before .before .before .before .before .before .before .if1 .taken) in
     let opened = rw given at (c .before .before .before .before .before .before .before .before .before .before .before .before .«open» .ensures) in
     let put = c .before .before .append-outcome .ensures in
@@ -90,7 +90,7 @@ same-length-10 c = search needs
 returns-2 : tie.Need-returns-2
 returns-2 c =
     let a = c .before .before .before .before .before .before .before .before .before .before .before .before .before .before .before .before .before .before .before .before .before .before .before .before .before .before .before .before .args in
-    let given = c .before .before .before .before .before .before .before .before .before .before .before .before .before .before .before .before .before .before .before .opening-at .ensures in
+    let given = c .before .before .before .before .before .before .before .before .before .before .before .before .before .before .before .before .before .before .before .opening-operands .ensures in
     let short = rw given at (sym (c .before .before .before .before .before .before .before .before .before .before .before .before .before .before .before .before .before .before .parts-suffice .ensures) ∙ c .before .before .before .before .before .before .before .before .before .before .before .before .before .before .before .before .before .if1 .left) in
     let opened = rw given at (c .before .before .before .before .before .before .before .before .before .before .before .before .open2 .ensures) in
     let put = c .before .before .append-outcome2 .ensures in
@@ -103,7 +103,7 @@ pub open-spec : {M : Type 1} → statement M
 open-spec =
     tie.close
     (tie.spec
-    opening-at-requires
+    opening-operands-requires
     parts-suffice-requires
     open-requires
     append-outcome-requires

@@ -4,21 +4,21 @@ use denote.Ref.{now}
 use mathlib.Core.Path.{_≡_, sym, ap, _∙_}
 use lib.ListN.{getD}
 use lib.Seq.{length-take-le}
-use Rattle.commands.proofs.Laws.{one-byte}
-use Rattle.commands.specs.declared.operands.Reception.{Reception}
+use Rattle.input.proofs.Laws.{one-byte}
+use Rattle.input.specs.declared.operands.Reception.{Reception}
 use borrow.Author.Needs.{needs}
 use Rattle.console.proofs.calls.receive.Statement.{statement}
 use Rattle.console.proofs.calls.receive.Tie as tie
 
 -- the count of records is one byte
-counted : (c : tie.After-reception-at) → c .reception-at .result .records ≡ getD (now (c .before .before .before .before .before .before .args .command)) 15 0
-counted c = ap (λ (r : Reception). r .records) (c .reception-at .ensures) ∙ one-byte (now (c .before .before .before .before .before .before .args .command)) 15
+counted : (c : tie.After-reception-operands) → c .reception-operands .result .records ≡ getD (now (c .before .before .before .before .before .before .args .command)) 15 0
+counted c = ap (λ (r : Reception). r .records) (c .reception-operands .ensures) ∙ one-byte (now (c .before .before .before .before .before .before .args .command)) 15
 
-few : (c : tie.After-reception-at) → c .reception-at .result .records ≤ 255
+few : (c : tie.After-reception-operands) → c .reception-operands .result .records ≤ 255
 few c = omega (arith, counted c, c .before .before .before .before .before .shared-slice-known .given 15)
 
-reception-at-requires : tie.Need-reception-at-requires
-reception-at-requires c κs = search needs
+reception-operands-requires : tie.Need-reception-operands-requires
+reception-operands-requires c κs = search needs
 
 slice-aggregate-gather : tie.Need-slice-aggregate-gather
 slice-aggregate-gather c = search needs
@@ -47,7 +47,7 @@ same-length-2 c = search needs
 returns : tie.Need-returns
 returns c =
     let gathered = c .before .before .before .before .before .before .before .before .before .before .gather .ensures in
-    let received = rw (gathered .1, c .before .before .before .before .before .before .before .before .before .before .before .before .reception-at .ensures) at (c .before .before .before .before .before .before .receive .ensures) in
+    let received = rw (gathered .1, c .before .before .before .before .before .before .before .before .before .before .before .before .reception-operands .ensures) at (c .before .before .before .before .before .before .receive .ensures) in
     let put = c .before .before .append-outcome .ensures in
     (rw (received .answered) at (put .0), (received .readings, put .1))
 
@@ -55,7 +55,7 @@ pub receive-spec : {M : Type 1} → statement M
 receive-spec =
     tie.close
     (tie.spec
-    reception-at-requires
+    reception-operands-requires
     slice-aggregate-gather
     gather-requires
     array-share-prefix-body

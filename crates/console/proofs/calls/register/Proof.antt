@@ -2,8 +2,8 @@ use borrow.Author.Needs.{needs}
 use Rattle.console.proofs.calls.register.Statement.{statement}
 use Rattle.console.proofs.calls.register.Tie as tie
 
-registration-at-requires : tie.Need-registration-at-requires
-registration-at-requires c κs = search needs
+registration-operands-requires : tie.Need-registration-operands-requires
+registration-operands-requires c κs = search needs
 
 register-requires : tie.Need-register-requires
 register-requires c κs = search needs
@@ -19,7 +19,7 @@ same-length-2 c = search needs
 
 returns : tie.Need-returns
 returns c =
-    let registered = rw (c .before .before .before .before .before .before .before .before .registration-at .ensures) at (c .before .before .before .before .before .before .register .ensures) in
+    let registered = rw (c .before .before .before .before .before .before .before .before .registration-operands .ensures) at (c .before .before .before .before .before .before .register .ensures) in
     let put = c .before .before .append-outcome .ensures in
     (rw (registered .0) at (put .0), (registered .1, put .1))
 
@@ -27,7 +27,7 @@ pub register-spec : {M : Type 1} → statement M
 register-spec =
     tie.close
     (tie.spec
-    registration-at-requires
+    registration-operands-requires
     register-requires
     append-outcome-requires
     same-length

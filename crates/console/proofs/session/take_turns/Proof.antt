@@ -2,14 +2,14 @@ use borrow.Author.Needs.{needs}
 use mathlib.Core.Path.{_≡_, refl, sym}
 use lib.ListN.{length}
 use lib.Seq.{length-take-le}
-use Rattle.console.specs.Session.{Window, Held}
+use Rattle.console.specs.Session.{BlockBounds, Held}
 use native.Mathlib.Omega.{arith}
 use Rattle.console.proofs.session.take_turns.Statement.{statement}
 use Rattle.console.proofs.session.take_turns.Tie as tie
 
 abbrev Inv-loop : tie.InvT-loop
 Inv-loop input₀ output₀ category-records₀ day-types₀ settings₀ meters₀ readings₀ cells₀ most-meters most-date-periods session₀ turns₀ input output category-records day-types settings meters readings cells session turns =
-    Window session (length input₀) ×
+    BlockBounds session (length input₀) ×
     Held session (length output₀) (length category-records₀) (length day-types₀) ×
     (length input ≡ length input₀) ×
     (length output ≡ length output₀) ×

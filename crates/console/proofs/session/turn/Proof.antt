@@ -7,7 +7,7 @@ use lib.ListN.{length, getD, take, drop}
 use lib.Dec.{leb, ltb}
 use borrow.Author.Tests.{leb-true, ltb-true}
 use denote.Ref.{now}
-use Rattle.commands.specs.Form.{commandLength, isOverfull, Command}
+use Rattle.input.specs.Form.{commandLength, isOverfull, Command}
 use Rattle.console.proofs.Laws.{window-length, category-room, day-type-room}
 use borrow.Author.Needs.{needs}
 use Rattle.console.proofs.session.turn.Statement.{statement}

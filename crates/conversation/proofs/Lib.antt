@@ -1,0 +1,2 @@
+-- The theorem on conversations.
+pub mod Conversation

@@ -1,0 +1,2 @@
+-- The command program over the plain ledger.
+pub mod Conversation

@@ -1,0 +1,1 @@
+// No code: what a whole conversation prints, in specs and proofs.

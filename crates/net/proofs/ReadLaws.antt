@@ -1,0 +1,107 @@
+-- What a net read answers and leaves, where a check fails and where none does.
+use Prim.Native.Nat.{ℕ, zero, suc, _<_}
+use mathlib.Core.Path.{_≡_, refl, ap, _∙_}
+use mathlib.Core.Bool.{Bool, not, cond}
+use mathlib.Core.List.{List, [], _∷_}
+use native.Mathlib.Omega.{arith}
+use native.Mathlib.Nat.{not-suc-le-zero}
+use lib.IntN.{ℤ}
+use lib.ListN.{length, getD, take, drop}
+use lib.Seq.{getD-take, take-at}
+use Rattle.ledger.specs.Net.{activeImport, activeExport, sideOf, Net, netOn}
+use Rattle.ledger.specs.Checks.{mayNet}
+use Rattle.ledger.specs.Ledger.{answer, left, refused, netIs}
+use Rattle.ledger.specs.Store.{categoriesOf, periodsOf, rowLength, isRunAt}
+use Rattle.ledger.specs.Calls.{cellFor, sideFor, netVerdict, netFor, overwritten}
+use Rattle.ledger.specs.Engine.{Every}
+use Rattle.ledger.proofs.Lists.{length-tabulate}
+use Rattle.ledger.proofs.Nets.{chosen-below}
+use Rattle.ledger.proofs.Verdicts.{refused-is, kept-is, given-is, after-is}
+use Rattle.net.specs.Asked.{netCall}
+use Rattle.net.specs.Sides.{Listed, pairedWith}
+use Rattle.net.specs.Walk.{Among, NetWritten}
+use Rattle.net.proofs.SideLaws.{found-count}
+use Rattle.net.proofs.CheckLaws.{rangeNumber, range-decides, pair-decides}
+
+-- ---- members
+
+every-at : (P : ℕ → Type 0) (cs : List ℕ) (i : ℕ) → Every P cs → i < length cs → P (getD cs i 0)
+every-at P [] i all h = absurd (not-suc-le-zero h)
+every-at P (c ∷ cs) zero all h = all .0
+every-at P (c ∷ cs) (suc i) all h = every-at P cs i (all .1) (omega arith)
+
+side-low : (s : List ℕ) (allGroups : Bool) (quantity c : ℕ) → Every (λ b. b < categoriesOf s) (sideFor s allGroups quantity c)
+unfolding sideFor sideOf
+side-low s allGroups quantity c = chosen-below (categoriesOf s) _
+
+-- those found are among the categories that there are
+pub found-among : (s : List ℕ) (allGroups : Bool) (quantity c : ℕ) (found : List ℕ) (count : ℕ) → Listed (sideFor s allGroups quantity c) found count → Among (categoriesOf s) found count
+found-among s allGroups quantity c found count l =
+    record {
+      few = l .few;
+      within = let f = l .few in let g = l .long in omega arith;
+      each =
+          λ i h.
+          rw (← (getD-take count found i 0 h), l .are)
+          (every-at (λ b. b < categoriesOf s) (sideFor s allGroups quantity c) i (side-low s allGroups quantity c) (let e = found-count l in omega arith));
+    }
+
+-- ---- the answer
+
+module _ (s cells : List ℕ) (allGroups : Bool) (date category : ℕ) (numbers : List ℤ) (marks : List ℕ) where
+  -- a number that a check gave
+  pub refuses : (n : ℕ) → n ≡ netVerdict s cells (netCall allGroups date category numbers marks) .number → (n ≡ 0 → ⊥) →
+      (refused n 0 ≡ answer (netVerdict s cells (netCall allGroups date category numbers marks)) (netIs (netFor s cells (netCall allGroups date category numbers marks))))
+      × ((numbers ≡ left (netVerdict s cells (netCall allGroups date category numbers marks)) numbers (overwritten (netFor s cells (netCall allGroups date category numbers marks) .periods) numbers))
+      × (marks ≡ left (netVerdict s cells (netCall allGroups date category numbers marks)) marks (overwritten (netFor s cells (netCall allGroups date category numbers marks) .marks) marks)))
+  unfolding netVerdict
+  refuses n is fails = (refused-is _ n is _ refl fails, (kept-is _ n is _ _ fails, kept-is _ n is _ _ fails))
+
+  pub by-range : (n : ℕ) → n ≡ rangeNumber s cells (length numbers) (length marks) date category → (n ≡ 0 → ⊥) →
+      n ≡ netVerdict s cells (netCall allGroups date category numbers marks) .number
+  unfolding netVerdict
+  by-range n is fails = range-decides _ _ _ _ _ _ n is fails
+
+  pub by-pair : (n m : ℕ) (found : List ℕ) (count : ℕ) → n ≡ rangeNumber s cells (length numbers) (length marks) date category → n ≡ 0 →
+      Listed (sideFor s allGroups activeExport category) found count →
+      m ≡ cond (not (pairedWith s category count)) 26 (cond (not (isRunAt (rowLength s) cells date)) 14 0) →
+      m ≡ netVerdict s cells (netCall allGroups date category numbers marks) .number
+  unfolding netVerdict mayNet sideFor pairedWith
+  by-pair n m found count is none l e = pair-decides _ _ _ _ _ _ n m is none (e ∙ rw (← (found-count l)))
+
+  -- the lists and numbers of the net, at the front of the lists lent
+  periods-long : length (netFor s cells (netCall allGroups date category numbers marks) .periods) ≡ periodsOf s
+  unfolding netFor netOn
+  periods-long = length-tabulate (periodsOf s) _
+
+  marks-long : length (netFor s cells (netCall allGroups date category numbers marks) .marks) ≡ periodsOf s
+  unfolding netFor netOn
+  marks-long = length-tabulate (periodsOf s) _
+
+  front-is : {A : Type 0} (results lent list : List A) → length results ≡ periodsOf s → list ≡ overwritten results lent → take (periodsOf s) list ≡ results
+  unfolding overwritten
+  front-is results lent list n e = rw e (take-at results (drop (length results) lent) (periodsOf s) n)
+
+  pub accepts : (tot tot7 : ℤ) (numbers′ : List ℤ) (marks′ : List ℕ) (imports exports : List ℕ) (importCount exportCount m : ℕ) →
+      m ≡ netVerdict s cells (netCall allGroups date category numbers marks) .number → m ≡ 0 →
+      Listed (sideFor s allGroups activeImport category) imports importCount →
+      Listed (sideFor s allGroups activeExport category) exports exportCount →
+      NetWritten (netOn (periodsOf s) (isRunAt (rowLength s) cells) (cellFor s cells) (take importCount imports) (take exportCount exports) date) tot tot7 numbers numbers′ marks marks′ →
+      (netIs (record { tot = tot; tot7 = tot7; periods = take (periodsOf s) numbers′; marks = take (periodsOf s) marks′ })
+      ≡ answer (netVerdict s cells (netCall allGroups date category numbers marks)) (netIs (netFor s cells (netCall allGroups date category numbers marks))))
+      × ((numbers′ ≡ left (netVerdict s cells (netCall allGroups date category numbers marks)) numbers (overwritten (netFor s cells (netCall allGroups date category numbers marks) .periods) numbers))
+      × (marks′ ≡ left (netVerdict s cells (netCall allGroups date category numbers marks)) marks (overwritten (netFor s cells (netCall allGroups date category numbers marks) .marks) marks)))
+  accepts tot tot7 numbers′ marks′ imports exports importCount exportCount m is none i e w =
+      let net : Net = netFor s cells (netCall allGroups date category numbers marks) in
+      let written : NetWritten net tot tot7 numbers numbers′ marks marks′ = (unfold netFor in rw (i .are, e .are) at w) in
+      let same : _≡_ {A = Net} (record { tot = tot; tot7 = tot7; periods = take (periodsOf s) numbers′; marks = take (periodsOf s) marks′ }) net =
+      λ x.
+      record {
+        tot = written .day x;
+        tot7 = written .week x;
+        periods = front-is (net .periods) numbers numbers′ periods-long (written .nets-are) x;
+        marks = front-is (net .marks) marks marks′ marks-long (written .marks-are) x;
+      } in (
+        ap netIs same ∙ given-is _ m is _ none,
+        (written .nets-are ∙ after-is _ m is _ _ none, written .marks-are ∙ after-is _ m is _ _ none),
+      )

@@ -1,0 +1,109 @@
+-- Sums over the members at the front of an array.
+use Prim.Native.Nat.{ℕ, zero, suc, _+_, _-_, _*_, _≤_, _<_}
+use mathlib.Core.Path.{_≡_, refl, sym, ap, _∙_}
+use mathlib.Core.Bool.{Bool, true, false, cond, true≢false}
+use lib.Dec.{eqb}
+use mathlib.Core.List.{List, [], _∷_, _++_, append-nil}
+use native.Mathlib.Omega.{arith}
+use native.Mathlib.Nat.{mul-suc, mul-le-mul-left}
+use native.Mathlib.Numerals.{add-one}
+use lib.ListN.{length, getD, set, take, length-append, length-set}
+use lib.Seq.{take-suc, take-suc-set, length-take-le}
+use borrow.Table.Steps.{cases}
+use Rattle.ledger.specs.Net.{sumOver, chosenBelow}
+use Rattle.ledger.specs.Method.{overRunDates}
+use Rattle.ledger.proofs.Nets.{sumOver-append, sumOver-one, sumOver-none}
+use borrow.Author.Tests.{eq-eqb, ne-eqb}
+use Rattle.reads.specs.Sums.{Figure}
+use Rattle.reads.specs.Column.{totIn, runIn, Within}
+use Rattle.reads.proofs.ColumnLaws as column-laws
+use Rattle.net.specs.Sides.{Listed}
+use Rattle.net.specs.Walk.{SummedFirst, columnAt, earlierTot}
+
+-- ---- what a loop over members has summed
+
+pub none-first : (members : List ℕ) (bound : ℕ) (f : ℕ → ℕ) → SummedFirst members 0 bound f 0
+unfolding sumOver
+none-first members bound f = record { is = refl; small = omega arith }
+
+pub one-further : {members : List ℕ} {n bound v r : ℕ} {f : ℕ → ℕ} → SummedFirst members n bound f r → n < length members → Figure bound (f (getD members n 0)) v →
+    SummedFirst members (n + 1) bound f (r + v)
+one-further {members} {n} {bound} {v} {r} {f} so-far low next =
+    record {
+      is = rw (add-one, take-suc members n 0 low, sumOver-append, sumOver-one, so-far .is, next .is);
+      small = rw (add-one, mul-suc) (omega arith);
+    }
+
+pub all-first : {members : List ℕ} {n m bound r : ℕ} {f : ℕ → ℕ} → n ≡ m → SummedFirst members n bound f r → SummedFirst members m bound f r
+all-first e s = rw e at s
+
+-- of at most 64 members
+pub as-figure : {members : List ℕ} {n bound r : ℕ} {f : ℕ → ℕ} → SummedFirst members n bound f r → n ≤ 64 → Figure (bound * 64) (sumOver (take n members) f) r
+as-figure {bound = bound} s few = record { is = s .is; small = omega (arith, s .small, mul-le-mul-left bound few) }
+
+-- ---- members as they are found
+
+pub member-added : (found : List ℕ) (count c : ℕ) (chosen : Bool) → count < 64 → length found ≡ 64 → chosen ≡ true →
+    Listed (take count found ++ cond chosen (c ∷ []) []) (set found count c) (count + 1)
+member-added found count c chosen low long is =
+    record {
+      are = rw (is, add-one, take-suc-set found count c (omega arith));
+      few = omega arith;
+      long = length-set found count c ∙ long;
+    }
+
+pub member-left : (found : List ℕ) (count c : ℕ) (chosen : Bool) → count < 64 → length found ≡ 64 → chosen ≡ false →
+    Listed (take count found ++ cond chosen (c ∷ []) []) found count
+member-left found count c chosen low long is = record { are = rw is (sym (append-nil (take count found))); few = omega arith; long = long }
+
+pub found-none : (test : ℕ → Bool) (found : List ℕ) → length found ≡ 64 → Listed (chosenBelow 0 test) found 0
+unfolding chosenBelow
+found-none test found long = record { are = refl; few = omega arith; long = long }
+
+pub found-next : (test : ℕ → Bool) (b : ℕ) (found found′ : List ℕ) (count count′ : ℕ) (chosen : Bool) → Listed (chosenBelow b test) found count → chosen ≡ test b →
+    Listed (take count found ++ cond chosen (b ∷ []) []) found′ count′ → Listed (chosenBelow (b + 1) test) found′ count′
+unfolding chosenBelow
+found-next test b found found′ count count′ chosen so-far is next =
+    record {
+      are = next .are ∙ rw (add-one, so-far .are, is);
+      few = next .few;
+      long = next .long;
+    }
+
+chosen-few : (n : ℕ) (test : ℕ → Bool) → length (chosenBelow n test) ≤ n
+unfolding chosenBelow
+chosen-few zero test = omega arith
+chosen-few (suc n) test =
+    let h = chosen-few n test in
+    rw (length-append (chosenBelow n test)) (cases (test n) (λ q. rw q (omega arith)) (λ q. rw q (omega arith)))
+
+-- as many as the array's front is long
+pub found-count : {side found : List ℕ} {count : ℕ} → Listed side found count → length side ≡ count
+found-count {side} {found} {count} l = ap length (sym (l .are)) ∙ length-take-le count found (let f = l .few in let g = l .long in omega arith)
+
+pub found-few : (test : ℕ → Bool) (b : ℕ) {found : List ℕ} {count : ℕ} → Listed (chosenBelow b test) found count → count ≤ b
+found-few test b l = let e = found-count l in let f = chosen-few b test in omega arith
+
+pub found-all : (test : ℕ → Bool) (b n : ℕ) (found : List ℕ) (count : ℕ) → b ≡ n → Listed (chosenBelow b test) found count → Listed (chosenBelow n test) found count
+found-all test b n found count e l = rw e at l
+
+-- ---- the six dates before
+
+sum-never : (b : Bool) (cs : List ℕ) (f : ℕ → ℕ) → b ≡ true → sumOver cs (λ c. cond b 0 (f c)) ≡ 0
+sum-never true cs f e = sumOver-none cs
+sum-never false cs f e = absurd (true≢false (sym e))
+
+module _ (cells : List ℕ) (categories periods date : ℕ) where
+  -- before the first date there is none
+  pub none-earlier : (members : List ℕ) (count bound : ℕ) → date ≡ 0 → SummedFirst members count bound (earlierTot cells categories periods date) 0
+  none-earlier members count bound e = record { is = sym (sum-never (eqb date 0) (take count members) _ (eq-eqb date 0 e)); small = omega arith }
+
+  pub earlier-is : (bound c r : ℕ) → (date ≡ 0 → ⊥) →
+      Figure bound (overRunDates (runIn (columnAt categories periods c) cells) 6 (totIn (columnAt categories periods c) cells) (date - 1)) r →
+      Figure bound (earlierTot cells categories periods date c) r
+  earlier-is bound c r some f = record { is = f .is ∙ rw (ne-eqb date 0 some); small = f .small }
+
+  -- the rows of earlier dates are within the part where the date's is
+  pub earlier-within : (c : ℕ) → c < categories → 1 ≤ periods → periods ≤ 96 → date * (categories * periods) + categories * periods ≤ length cells →
+      Within cells (columnAt categories periods c) (date - 1)
+  earlier-within c h low high fits = column-laws.earlier-within {cells = cells} {column = columnAt categories periods c} {d = date} (record { category = h; periods = (low, high); date = fits }) 1

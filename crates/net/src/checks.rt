@@ -1,0 +1,90 @@
+// The checks of a net read, each part as the number of its refusal: 0 says that it passed.
+use crate::sides::ACTIVE_IMPORT;
+use reads::checks::first_failed;
+use reads::checks::run_number;
+use store::category::is_smart;
+use store::category::quantity;
+use store::settings::category_count;
+use store::settings::cells_ready;
+use store::settings::date_count;
+use store::settings::period_count;
+use store::settings::settings_ready;
+ghost use mathlib.Core.Path.{_≡_};
+ghost use mathlib.Core.Bool.{true, not, _||_, cond};
+ghost use Prim.Native.Nat.{_<_};
+ghost use lib.Dec.{leb};
+ghost use Rattle.ledger.specs.Checks.{resultsShort, totalsInRange};
+ghost use Rattle.ledger.specs.Store.{categoriesOf, datesOf, periodsOf, rowLength, settingsReady, cellsReady, isRunAt};
+ghost use Rattle.ledger.specs.Calls.{cellsUnready};
+ghost use Rattle.net.specs.Sides.{pairedWith};
+
+// 1: a part or a list for results is too short, or the store unopened.
+fn short_number(settings: &[u8], cells: &[u64], numbers: u64, marks: u64) -> u64
+    ensures { λ r. ⌜ r ≡ cond (cellsUnready (now (settings .entry)) (now (cells .entry)) || resultsShort (periodsOf (now (settings .entry))) numbers marks) 1 0 ⌝ }
+{
+    if !settings_ready(settings) {
+        return 1;
+    }
+    if !cells_ready(settings, cells) {
+        return 1;
+    }
+    let periods = period_count(settings);
+    if numbers < periods {
+        return 1;
+    }
+    if marks < periods {
+        return 1;
+    }
+    0
+}
+
+// 1, 9 and 15.
+pub fn range_number(
+    settings: &[u8],
+    cells: &[u64],
+    date: u64,
+    category: u64,
+    numbers: u64,
+    marks: u64,
+) -> u64
+    ensures { λ r. ⌜ r ≡ cond (cellsUnready (now (settings .entry)) (now (cells .entry)) || resultsShort (periodsOf (now (settings .entry))) numbers marks) 1 (cond (leb (datesOf (now (settings .entry))) date) 9 (cond (not (totalsInRange (categoriesOf (now (settings .entry))) category)) 15 0)) ⌝ }
+{
+    let short = short_number(settings, cells, numbers, marks);
+    if short != 0 {
+        return short;
+    }
+    if date_count(settings) <= date {
+        return 9;
+    }
+    if category_count(settings) <= category {
+        return 15;
+    }
+    0
+}
+
+// 26; `exports` is how many export categories there are on the other side.
+fn partner_number(settings: &[u8], category: u64, exports: u64) -> u64
+    requires { ⌜ (settingsReady (now settings) ≡ true) × (category < categoriesOf (now settings)) ⌝ }
+    ensures { λ r. ⌜ r ≡ cond (not (pairedWith (now (settings .entry)) category exports)) 26 0 ⌝ }
+{
+    if !is_smart(settings, category) {
+        return 26;
+    }
+    if quantity(settings, category) != ACTIVE_IMPORT {
+        return 26;
+    }
+    if exports == 0 {
+        return 26;
+    }
+    0
+}
+
+// 26 and 14.
+pub fn pair_number(settings: &[u8], cells: &[u64], date: u64, category: u64, exports: u64) -> u64
+    requires { ⌜ (settingsReady (now settings) ≡ true) × (cellsReady (now settings) (now cells) ≡ true) × (date < datesOf (now settings)) × (category < categoriesOf (now settings)) ⌝ }
+    ensures { λ r. ⌜ r ≡ cond (not (pairedWith (now (settings .entry)) category exports)) 26 (cond (not (isRunAt (rowLength (now (settings .entry))) (now (cells .entry)) date)) 14 0) ⌝ }
+{
+    let partner_failed = partner_number(settings, category, exports);
+    let run_failed = run_number(settings, cells, date);
+    first_failed(partner_failed, run_failed)
+}

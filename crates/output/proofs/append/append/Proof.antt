@@ -1,0 +1,35 @@
+use native.Mathlib.Omega.{arith}
+use denote.Ref.{now}
+use Rattle.output.proofs.Laws.{part-appended}
+use borrow.Author.Needs.{needs}
+use Rattle.output.proofs.append.append.Statement.{statement}
+use Rattle.output.proofs.append.append.Tie as tie
+
+sub-copy : tie.Need-sub-copy
+sub-copy c = search needs
+
+part-copy-start : tie.Need-part-copy-start
+part-copy-start c = search needs
+
+part-copy-end : tie.Need-part-copy-end
+part-copy-end c = search needs
+
+copy-requires : tie.Need-copy-requires
+copy-requires c κs = search needs
+
+add-result : tie.Need-add-result
+add-result c = search needs
+
+same-length : tie.Need-same-length
+same-length c = search needs
+
+returns : tie.Need-returns
+returns c =
+    let a = c .before .before .before .before .before .before .args in
+    let copied = c .before .before .copy .ensures in
+    part-appended (now (a .out)) (now (a .text)) _ _ (a .at) _ (omega arith) (copied .0) (copied .1) _
+
+pub append-spec : {M : Type 1} → statement M
+append-spec =
+    tie.close
+    (tie.spec sub-copy part-copy-start part-copy-end copy-requires add-result same-length returns)

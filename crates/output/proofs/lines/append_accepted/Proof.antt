@@ -1,0 +1,25 @@
+use Rattle.output.proofs.Laws.{join}
+use borrow.Author.Needs.{needs}
+use Rattle.output.proofs.lines.append_accepted.Statement.{statement}
+use Rattle.output.proofs.lines.append_accepted.Tie as tie
+
+append-command-requires : tie.Need-append-command-requires
+append-command-requires c κs = search needs
+
+slice-aggregate-append : tie.Need-slice-aggregate-append
+slice-aggregate-append c = search needs
+
+append-requires : tie.Need-append-requires
+append-requires c κs = search needs
+
+same-length : tie.Need-same-length
+same-length c = search needs
+
+returns : tie.Need-returns
+returns c =
+    join (c .before .before .before .before .before .before .before .append-command .ensures) (c .before .before .append .ensures)
+
+pub append-accepted-spec : {M : Type 1} → statement M
+append-accepted-spec =
+    tie.close
+    (tie.spec append-command-requires slice-aggregate-append append-requires same-length returns)

@@ -1,0 +1,43 @@
+use native.Mathlib.Omega.{arith}
+use Rattle.output.proofs.Laws.{join}
+use borrow.Author.Needs.{needs}
+use Rattle.output.proofs.lines.append_fields.Statement.{statement}
+use Rattle.output.proofs.lines.append_fields.Tie as tie
+
+letter-requires : tie.Need-letter-requires
+letter-requires c κs = search needs
+
+slice-aggregate-append : tie.Need-slice-aggregate-append
+slice-aggregate-append c = search needs
+
+append-requires : tie.Need-append-requires
+append-requires c κs = search needs
+
+append-energy-requires : tie.Need-append-energy-requires
+append-energy-requires c κs = search needs
+
+append-number-requires : tie.Need-append-number-requires
+append-number-requires c κs = search needs
+
+append-origin-requires : tie.Need-append-origin-requires
+append-origin-requires c κs = search needs
+
+same-length : tie.Need-same-length
+same-length c = search needs
+
+returns : tie.Need-returns
+returns c =
+    rw (← c .before .before .before .before .before .before .before .before .before .before .before .before .before .before .before .before .letter .ensures) (join (c .before .before .before .before .before .before .before .before .before .before .before .before .before .before .append .ensures) (join (c .before .before .before .before .before .before .before .before .before .before .append-energy .ensures .0) (join (c .before .before .before .before .before .before .append-number .ensures .0) (c .before .before .append-origin .ensures .0))), omega arith)
+
+pub append-fields-spec : {M : Type 1} → statement M
+append-fields-spec =
+    tie.close
+    (tie.spec
+    letter-requires
+    slice-aggregate-append
+    append-requires
+    append-energy-requires
+    append-number-requires
+    append-origin-requires
+    same-length
+    returns)

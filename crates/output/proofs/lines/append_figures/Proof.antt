@@ -1,0 +1,47 @@
+use native.Mathlib.Omega.{arith}
+use Rattle.output.proofs.Laws.{join}
+use borrow.Author.Needs.{needs}
+use Rattle.output.proofs.lines.append_figures.Statement.{statement}
+use Rattle.output.proofs.lines.append_figures.Tie as tie
+
+append-energies-requires : tie.Need-append-energies-requires
+append-energies-requires c κs = search needs
+
+append-energies-requires-2 : tie.Need-append-energies-requires-2
+append-energies-requires-2 c κs = search needs
+
+append-number-requires : tie.Need-append-number-requires
+append-number-requires c κs = search needs
+
+append-energy-requires : tie.Need-append-energy-requires
+append-energy-requires c κs = search needs
+
+append-number-requires-2 : tie.Need-append-number-requires-2
+append-number-requires-2 c κs = search needs
+
+append-number-requires-3 : tie.Need-append-number-requires-3
+append-number-requires-3 c κs = search needs
+
+append-number-requires-4 : tie.Need-append-number-requires-4
+append-number-requires-4 c κs = search needs
+
+same-length : tie.Need-same-length
+same-length c = search needs
+
+returns : tie.Need-returns
+returns c =
+    (join (c .before .before .before .before .before .before .before .before .before .before .before .before .before .before .before .before .before .before .before .before .before .before .before .before .before .before .append-energies .ensures .0) (join (c .before .before .before .before .before .before .before .before .before .before .before .before .before .before .before .before .before .before .before .before .before .before .append-energies2 .ensures .0) (join (c .before .before .before .before .before .before .before .before .before .before .before .before .before .before .before .before .before .before .append-number .ensures .0) (join (c .before .before .before .before .before .before .before .before .before .before .before .before .before .before .append-energy .ensures .0) (join (c .before .before .before .before .before .before .before .before .before .before .append-number2 .ensures .0) (join (c .before .before .before .before .before .before .append-number3 .ensures .0) (c .before .before .append-number4 .ensures .0)))))), omega arith)
+
+pub append-figures-spec : {M : Type 1} → statement M
+append-figures-spec =
+    tie.close
+    (tie.spec
+    append-energies-requires
+    append-energies-requires-2
+    append-number-requires
+    append-energy-requires
+    append-number-requires-2
+    append-number-requires-3
+    append-number-requires-4
+    same-length
+    returns)

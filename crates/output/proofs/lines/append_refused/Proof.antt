@@ -1,0 +1,43 @@
+use native.Mathlib.Omega.{arith}
+use Rattle.output.proofs.Laws.{join}
+use borrow.Author.Needs.{needs}
+use Rattle.output.proofs.lines.append_refused.Statement.{statement}
+use Rattle.output.proofs.lines.append_refused.Tie as tie
+
+append-command-requires : tie.Need-append-command-requires
+append-command-requires c κs = search needs
+
+slice-aggregate-append : tie.Need-slice-aggregate-append
+slice-aggregate-append c = search needs
+
+append-requires : tie.Need-append-requires
+append-requires c κs = search needs
+
+append-number-requires : tie.Need-append-number-requires
+append-number-requires c κs = search needs
+
+append-number-requires-2 : tie.Need-append-number-requires-2
+append-number-requires-2 c κs = search needs
+
+append-byte-requires : tie.Need-append-byte-requires
+append-byte-requires c κs = search needs
+
+same-length : tie.Need-same-length
+same-length c = search needs
+
+returns : tie.Need-returns
+returns c =
+    (join (c .before .before .before .before .before .before .before .before .before .before .before .before .before .before .before .before .before .before .before .append-command .ensures) (join (c .before .before .before .before .before .before .before .before .before .before .before .before .before .before .append .ensures) (join (c .before .before .before .before .before .before .before .before .before .before .append-number .ensures .0) (join (c .before .before .before .before .before .before .append-number2 .ensures .0) (c .before .before .append-byte .ensures)))), omega arith)
+
+pub append-refused-spec : {M : Type 1} → statement M
+append-refused-spec =
+    tie.close
+    (tie.spec
+    append-command-requires
+    slice-aggregate-append
+    append-requires
+    append-number-requires
+    append-number-requires-2
+    append-byte-requires
+    same-length
+    returns)

@@ -1,0 +1,55 @@
+use native.Mathlib.Omega.{arith}
+use Rattle.output.proofs.Laws.{join}
+use Rattle.output.specs.Lines.{answerLine}
+use borrow.Author.Needs.{needs}
+use Rattle.output.proofs.lines.append_run.Statement.{statement}
+use Rattle.output.proofs.lines.append_run.Tie as tie
+
+enum-known-outcome : tie.Need-enum-known-outcome
+enum-known-outcome c = search needs
+
+append-accepted-requires : tie.Need-append-accepted-requires
+append-accepted-requires c κs = search needs
+
+append-number-requires : tie.Need-append-number-requires
+append-number-requires c κs = search needs
+
+append-byte-requires : tie.Need-append-byte-requires
+append-byte-requires c κs = search needs
+
+enum-known-outcome-2 : tie.Need-enum-known-outcome-2
+enum-known-outcome-2 c = search needs
+
+append-refused-requires : tie.Need-append-refused-requires
+append-refused-requires c κs = search needs
+
+same-length : tie.Need-same-length
+same-length c = search needs
+
+returns : tie.Need-returns
+unfolding answerLine
+returns c =
+    rw (c .before .before .before .before .before .before .before .before .before .before .before .before .before .outcome .given .1) (join (c .before .before .before .before .before .before .before .before .before .before .append-accepted .ensures) (join (c .before .before .before .before .before .before .append-number .ensures .0) (c .before .before .append-byte .ensures)), omega arith)
+
+same-length-2 : tie.Need-same-length-2
+same-length-2 c = search needs
+
+returns-2 : tie.Need-returns-2
+unfolding answerLine
+returns-2 c =
+    rw (c .before .before .before .before .before .outcome2 .given .1) (c .before .before .append-refused .ensures .0, omega arith)
+
+pub append-run-spec : {M : Type 1} → statement M
+append-run-spec =
+    tie.close
+    (tie.spec
+    enum-known-outcome
+    append-accepted-requires
+    append-number-requires
+    append-byte-requires
+    enum-known-outcome-2
+    append-refused-requires
+    same-length
+    returns
+    same-length-2
+    returns-2)

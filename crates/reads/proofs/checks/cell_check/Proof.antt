@@ -1,0 +1,41 @@
+-- `reads::checks::cell_check` meets its contract: the first failed check decides. Assumes nothing.
+use mathlib.Core.Path.{sym, _∙_}
+use borrow.Author.Needs.{needs}
+use Rattle.ledger.specs.Calls.{cellVerdict}
+use Rattle.reads.proofs.CheckLaws.{date-passed, first-decides, rest-decides}
+use Rattle.reads.proofs.checks.cell_check.Statement.{statement}
+use Rattle.reads.proofs.checks.cell_check.Tie as tie
+
+date-number-requires : tie.Need-date-number-requires
+date-number-requires c κs = search needs
+
+returns : tie.Need-returns
+unfolding cellVerdict
+returns c = first-decides _ _ _ _ _ _ (c .before .date-number .ensures) (c .if1 .taken)
+
+period-number-requires : tie.Need-period-number-requires
+period-number-requires c κs = date-passed _ _ _ (sym (c .before .date-number .ensures) ∙ c .if1 .left) .0
+
+run-number-requires : tie.Need-run-number-requires
+run-number-requires c κs = date-passed _ _ _ (sym (c .before .before .date-number .ensures) ∙ c .before .if1 .left)
+
+first-failed-requires : tie.Need-first-failed-requires
+first-failed-requires c κs = search needs
+
+returns-2 : tie.Need-returns-2
+unfolding cellVerdict
+returns-2 c =
+    let b = c .before .before .before in
+    rest-decides _ _ _ _ _ _ (b .before .date-number .ensures) _ _ _ (b .if1 .left) (c .before .before .period-number .ensures)
+    (c .before .run-number .ensures) (c .first-failed .ensures)
+
+pub cell-check-spec : {M : Type 1} → statement M
+cell-check-spec =
+    tie.close
+    (tie.spec
+    date-number-requires
+    returns
+    period-number-requires
+    run-number-requires
+    first-failed-requires
+    returns-2)

@@ -1,0 +1,28 @@
+-- `reads::dates::off_on` meets its contract: the entries from the first cell on are the date's cells. Assumes nothing.
+use native.Mathlib.Omega.{arith}
+use borrow.Author.Needs.{needs}
+use Rattle.reads.specs.Column.{offPeak}
+use Rattle.reads.proofs.ColumnLaws.{places-within, sum-of-cells}
+use Rattle.reads.proofs.dates.off_on.Statement.{statement}
+use Rattle.reads.proofs.dates.off_on.Tie as tie
+
+first-cell-requires : tie.Need-first-cell-requires
+first-cell-requires c κs = search needs
+
+off-sum-requires : tie.Need-off-sum-requires
+off-sum-requires c κs =
+    let h = places-within (c .before .before .pre .0) in
+    let e = c .first-cell .ensures in
+    (omega arith, omega arith, omega arith)
+
+returns : tie.Need-returns
+returns c =
+    let a = c .before .before .before .args in
+    record {
+      is = rw (c .off-sum .ensures .is)
+          (sum-of-cells (a .column) (a .date) (c .before .first-cell .result) (a .cells .now) (a .column .periods) (offPeak (a .window)) (c .before .first-cell .ensures));
+      small = omega arith;
+    }
+
+pub off-on-spec : {M : Type 1} → statement M
+off-on-spec = tie.close (tie.spec first-cell-requires off-sum-requires returns)

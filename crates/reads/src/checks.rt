@@ -1,0 +1,104 @@
+// The checks of both reads, each as the number of its refusal: 0 says that it passed.
+use metering::range::between;
+use store::run_mark::is_run;
+use store::settings::category_count;
+use store::settings::cells_ready;
+use store::settings::date_count;
+use store::settings::period_count;
+use store::settings::settings_ready;
+ghost use mathlib.Core.Path.{_≡_};
+ghost use mathlib.Core.Bool.{true, not, cond};
+ghost use Prim.Native.Nat.{_<_};
+ghost use lib.Dec.{eqb};
+ghost use Rattle.ledger.specs.Checks.{runCheck, totalsInRange, cellInRange};
+ghost use Rattle.ledger.specs.Store.{categoriesOf, datesOf, periodsOf, rowLength, settingsReady, cellsReady, isRunAt};
+ghost use Rattle.ledger.specs.Calls.{cellsUnready, totalsVerdict, cellVerdict};
+
+pub fn first_failed(first: u64, second: u64) -> u64
+    ensures { λ r. ⌜ r ≡ cond (eqb first 0) second first ⌝ }
+{
+    if first == 0 {
+        return second;
+    }
+    first
+}
+
+// 1: too short or unopened; 9: no such date.
+fn date_number(settings: &[u8], cells: &[u64], date: u64) -> u64
+    ensures { λ r. ⌜ r ≡ runCheck (cellsUnready (now (settings .entry)) (now (cells .entry))) (datesOf (now (settings .entry))) date ⌝ }
+{
+    if !settings_ready(settings) {
+        return 1;
+    }
+    if !cells_ready(settings, cells) {
+        return 1;
+    }
+    if date < date_count(settings) {
+        return 0;
+    }
+    9
+}
+
+// 15, for a totals read.
+fn category_number(settings: &[u8], category: u64) -> u64
+    requires { ⌜ settingsReady (now settings) ≡ true ⌝ }
+    ensures { λ r. ⌜ r ≡ cond (not (totalsInRange (categoriesOf (now (settings .entry))) category)) 15 0 ⌝ }
+{
+    if category < category_count(settings) {
+        return 0;
+    }
+    15
+}
+
+// 15, for a cell read.
+fn period_number(settings: &[u8], category: u64, period: u64) -> u64
+    requires { ⌜ settingsReady (now settings) ≡ true ⌝ }
+    ensures { λ r. ⌜ r ≡ cond (not (cellInRange (categoriesOf (now (settings .entry))) (periodsOf (now (settings .entry))) category period)) 15 0 ⌝ }
+{
+    if category_count(settings) <= category {
+        return 15;
+    }
+    if between(1, period_count(settings), period) {
+        return 0;
+    }
+    15
+}
+
+// 14: the date is not run.
+pub fn run_number(settings: &[u8], cells: &[u64], date: u64) -> u64
+    requires { ⌜ (settingsReady (now settings) ≡ true) × (cellsReady (now settings) (now cells) ≡ true) × (date < datesOf (now settings)) ⌝ }
+    ensures { λ r. ⌜ r ≡ cond (not (isRunAt (rowLength (now (settings .entry))) (now (cells .entry)) date)) 14 0 ⌝ }
+{
+    if !is_run(
+        category_count(settings) * period_count(settings),
+        cells,
+        date,
+    ) {
+        return 14;
+    }
+    0
+}
+
+pub fn totals_check(settings: &[u8], cells: &[u64], date: u64, category: u64) -> u64
+    ensures { λ r. ⌜ r ≡ totalsVerdict (now (settings .entry)) (now (cells .entry)) date category .number ⌝ }
+{
+    let number = date_number(settings, cells, date);
+    if number != 0 {
+        return number;
+    }
+    let category_failed = category_number(settings, category);
+    let run_failed = run_number(settings, cells, date);
+    first_failed(category_failed, run_failed)
+}
+
+pub fn cell_check(settings: &[u8], cells: &[u64], date: u64, category: u64, period: u64) -> u64
+    ensures { λ r. ⌜ r ≡ cellVerdict (now (settings .entry)) (now (cells .entry)) date category period .number ⌝ }
+{
+    let number = date_number(settings, cells, date);
+    if number != 0 {
+        return number;
+    }
+    let period_failed = period_number(settings, category, period);
+    let run_failed = run_number(settings, cells, date);
+    first_failed(period_failed, run_failed)
+}

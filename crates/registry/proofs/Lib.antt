@@ -1,4 +1,0 @@
--- Laws that several proofs cite.
-pub mod LentLaws
-pub mod RegistrationLaws
-pub mod ReceptionLaws

@@ -1,5 +1,0 @@
--- What the contracts of the reads say beyond the ledger crate's definitions.
-pub mod Sums
-pub mod Column
-pub mod Passed
-pub mod Answer

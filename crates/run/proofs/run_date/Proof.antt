@@ -1,0 +1,55 @@
+-- `run::run_date` meets its contract: the rows made for the run are long enough for any store, and empty.
+use Prim.Native.Nat.{ℕ}
+use mathlib.Core.Path.{_≡_, refl, _∙_}
+use borrow.Author.Needs.{needs}
+use lib.ListN.{getD-replicate}
+use Rattle.ledger.specs.Ready.{ready}
+use native.Mathlib.Nat.{le-trans}
+use Rattle.ledger.specs.Method.{blank}
+use Rattle.ledger.specs.Store.{entryOf}
+use Rattle.run_date.proofs.Laws.{row-bounds}
+use borrow.Author.Needs.{needs}
+use Rattle.run.proofs.run_date.Statement.{statement}
+use Rattle.run.proofs.run_date.Tie as tie
+
+blank-is : _≡_ {A = ℕ} 4294901764 (entryOf blank)
+unfolding entryOf blank
+blank-is = refl
+
+slice-aggregate-run-with : tie.Need-slice-aggregate-run-with
+slice-aggregate-run-with c = search needs
+
+slice-aggregate-run-with-2 : tie.Need-slice-aggregate-run-with-2
+slice-aggregate-run-with-2 c = search needs
+
+slice-aggregate-run-with-3 : tie.Need-slice-aggregate-run-with-3
+slice-aggregate-run-with-3 c = search needs
+
+run-with-requires : tie.Need-run-with-requires
+run-with-requires c κs =
+    let s = c .before .before .before .before .before .before .before .before in
+    let S = s .args .settings .now in
+    let small = row-bounds S (ready S (s .pre .0)) .1 in (
+      s .pre,
+      (
+        (small, small, small),
+        λ k l. (getD-replicate 6144 k 0 0 (le-trans l small), getD-replicate 6144 k 0 0 (le-trans l small), getD-replicate 6144 k 4294901764 0 (le-trans l small) ∙ blank-is),
+      ),
+    )
+
+same-length : tie.Need-same-length
+same-length c = search needs
+
+returns : tie.Need-returns
+returns c = search needs
+
+pub run-date-spec : {M : Type 1} → statement M
+run-date-spec =
+    tie.close
+    (tie.spec
+    slice-aggregate-run-with
+    slice-aggregate-run-with-2
+    slice-aggregate-run-with-3
+    run-with-requires
+    same-length
+    returns)

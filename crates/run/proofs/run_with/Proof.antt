@@ -1,0 +1,85 @@
+-- `run::run_with` meets its contract: the row written is the definition's new row, and the rest follows it.
+use mathlib.Core.Path.{ap, _∙_}
+use borrow.Author.Needs.{needs}
+use Rattle.ledger.specs.Ready.{ready}
+use Rattle.ledger.specs.Method.{wattHours, present}
+use Rattle.ledger.specs.Calls.{Ran}
+use Rattle.run_date.proofs.Laws.{tallied-zero}
+use Rattle.run.proofs.Laws.{tallied-bounded, new-is, settled-is}
+use borrow.Author.Needs.{needs}
+use Rattle.run.proofs.run_with.Statement.{statement}
+use Rattle.run.proofs.run_with.Tie as tie
+
+tally-date-requires : tie.Need-tally-date-requires
+tally-date-requires c κs =
+    let s = c .before .before .before .before .before .before .before .before .before in
+    let a = s .args in (
+      (s .pre .0 .0, s .pre .0 .1, s .pre .0 .2, s .pre .0 .4),
+      (
+        (s .pre .1 .0 .0, s .pre .1 .0 .1),
+        (
+          tallied-zero (a .settings .now) (a .meters .now) (a .readings .now) (a .date) wattHours (a .sums .now) (λ k l. s .pre .1 .1 k l .0),
+          tallied-zero (a .settings .now) (a .meters .now) (a .readings .now) (a .date) present (a .counts .now) (λ k l. s .pre .1 .1 k l .1),
+        ),
+      ),
+    )
+
+inherit-requires : tie.Need-inherit-requires
+inherit-requires c κs =
+    let s = c .before .before .before .before .before .before .before .before .before .before .before .before .before .before .before .before in
+    ((s .pre .0 .0, s .pre .0 .3), ((s .pre .0 .4, s .pre .1 .0 .2), λ k l. s .pre .1 .1 k l .2))
+
+settle-requires : tie.Need-settle-requires
+settle-requires c κs =
+    let s = c .before .before .before .before .before .before .before .before .before .before .before .before .before .before .before .before .before .before .before .before .before .before .before in
+    let a = s .args in
+    let S = a .settings .now in
+    let tallied = c .before .before .before .before .before .before .before .before .before .before .before .before .before .tally-date in (
+      (s .pre .0 .0, s .pre .0 .3, s .pre .0 .4),
+      (
+        rw (tallied .kept .1 .1 .1 .1 .0) (s .pre .1 .0 .0),
+        rw (tallied .kept .1 .1 .1 .1 .1 .0) (s .pre .1 .0 .1),
+        rw (c .before .before .before .before .before .before .inherit .kept .1 .1 .1 .0) (s .pre .1 .0 .2),
+        tallied-bounded S (a .meters .now) (a .readings .now) (a .date) (ready S (s .pre .0 .0)) _ _ (tallied .ensures .0) (tallied .ensures .1),
+      ),
+    )
+
+same-length : tie.Need-same-length
+same-length c = search needs
+
+same-length-2 : tie.Need-same-length-2
+same-length-2 c = search needs
+
+same-length-3 : tie.Need-same-length-3
+same-length-3 c = search needs
+
+same-length-4 : tie.Need-same-length-4
+same-length-4 c = search needs
+
+returns : tie.Need-returns
+returns c =
+    let s = c .before .before .before .before .before .before .before .before .before .before .before .before .before .before .before .before .before .before .before .before .before .before .before .before .before .before .before .before in
+    let a = s .args in
+    let S = a .settings .now in
+    let tallied = c .before .before .before .before .before .before .before .before .before .before .before .before .before .before .before .before .before .before .tally-date in
+    let new =
+    new-is S (a .meters .now) (a .readings .now) (a .date) (ready S (s .pre .0 .0)) (tallied .last .1 .1 .1 .1 .0) (tallied .last .1 .1 .1 .1 .1 .0)
+    (tallied .ensures .0) (tallied .ensures .1) (a .cells .now) (c .before .before .before .before .before .before .before .before .before .before .before .inherit .last .1 .1 .1 .0) (c .before .before .before .before .before .before .before .before .before .before .before .inherit .ensures) in
+    let is =
+    settled-is S (a .meters .now) (a .readings .now) (a .cells .now) (tallied .last .1 .1 .1 .1 .0) (tallied .last .1 .1 .1 .1 .1 .0)
+    (c .before .before .before .before .before .before .before .before .before .before .before .inherit .last .1 .1 .1 .0) (a .date) new in
+    let e = c .before .before .before .before .settle .ensures in
+    (e .0 ∙ ap (λ (x : Ran). x .cells) is, e .1 ∙ ap (λ (x : Ran). x .moved) is)
+
+pub run-with-spec : {M : Type 1} → statement M
+run-with-spec =
+    tie.close
+    (tie.spec
+    tally-date-requires
+    inherit-requires
+    settle-requires
+    same-length
+    same-length-2
+    same-length-3
+    same-length-4
+    returns)

@@ -1,0 +1,176 @@
+-- `run_date::write::write_row` meets its contract: after each turn the stretches of the categories passed are written and counted.
+use Prim.Native.Nat.{ℕ, _+_, _-_, _*_, _<_, _≤_}
+use mathlib.Core.Path.{_≡_, refl, sym, ap, _∙_}
+use native.Mathlib.Omega.{arith}
+use lib.ListN.{length, getD}
+use Rattle.ledger.specs.Ready.{ready}
+use Rattle.ledger.specs.Store.{categoriesOf, periodsOf, rowLength}
+use Rattle.ledger.specs.Calls.{comparedEntry, differing}
+use Rattle.ledger.specs.Table.{filling}
+use Rattle.run_rows.proofs.Laws.{filled-whole, differing-le, counted}
+use Rattle.ledger.proofs.Lists.{filling-length}
+use Rattle.run_date.specs.Sums.{rowFrom}
+use Rattle.run_date.proofs.Laws.{eight, stretch, row-bounds, part-width, next-stretch, row-start, count-start, row-step, count-step, row-end}
+use Rattle.run_date.proofs.write.write_row.Statement.{statement}
+use Rattle.run_date.proofs.write.write_row.Tie as tie
+
+abbrev Inv-loop : tie.InvT-loop
+Inv-loop settings sums counts inherited date row₀ categories periods moved₀ category₀ row moved category =
+    (categories ≡ categoriesOf settings) × (periods ≡ periodsOf settings) × (category ≤ categories) × (length row ≡ length row₀)
+    × (row ≡ filling (category * periodsOf settings) (rowFrom settings sums counts inherited date) row₀)
+    × (moved ≡ differing (category * periodsOf settings) (λ k. comparedEntry (getD row₀ k 0)) (rowFrom settings sums counts inherited date))
+
+abbrev μ-loop : tie.MeasureT-loop
+μ-loop settings sums counts inherited date row₀ categories periods moved₀ category₀ row moved category = categories - category
+
+-- the numbers of a turn: the category's stretch, as the code has it, lies in the row
+fit : (c : tie.In-loop Inv-loop μ-loop) →
+    record {
+      low : c .before .loop .category < categoriesOf (c .before .before .before .before .before .before .before .before .before .args .settings .now);
+      whole :
+          c .before .loop .category * periodsOf (c .before .before .before .before .before .before .before .before .before .args .settings .now)
+          + periodsOf (c .before .before .before .before .before .before .before .before .before .args .settings .now)
+          ≤ rowLength (c .before .before .before .before .before .before .before .before .before .args .settings .now);
+      most : rowLength (c .before .before .before .before .before .before .before .before .before .args .settings .now) ≤ 6144;
+      inside :
+          c .before .loop .category * c .before .before .period-count .result + c .before .before .period-count .result ≤ length (c .before .loop .row);
+      small : length (c .before .loop .row) ≤ 6144;
+    }
+fit c =
+    let s = c .before .before .before .before .before .before .before .before .before in
+    let l = c .before .loop in
+    let S = s .args .settings .now in
+    let low : l .category < categoriesOf S = rw (← l .inv .0) (c .loop-test .taken) in
+    let whole = stretch S (l .category) low in
+    let most = row-bounds S (ready S (s .pre .0 .0)) .1 in
+    let long : length (l .row) ≡ rowLength S = l .inv .3 ∙ s .pre .1 .1 .2 in
+    record {
+      low = low;
+      whole = whole;
+      most = most;
+      inside = rw (l .inv .1, long) whole;
+      small = rw long most;
+    }
+
+category-count-requires : tie.Need-category-count-requires Inv-loop μ-loop
+category-count-requires c κs = eight _ (c .before .before .before .before .before .pre .0 .0)
+
+period-count-requires : tie.Need-period-count-requires Inv-loop μ-loop
+period-count-requires c κs = c .before .before .before .before .before .before .pre .0 .0
+
+loop-holds : tie.Need-loop-holds Inv-loop μ-loop
+loop-holds c = (c .before .category-count .ensures, c .period-count .ensures, omega arith, refl, row-start _ _ _, count-start _ _ _)
+
+mul-at : tie.Need-mul-at Inv-loop μ-loop
+mul-at c = omega (arith, fit c)
+
+add-end : tie.Need-add-end Inv-loop μ-loop
+add-end c = omega (arith, fit c)
+
+mul-write-category : tie.Need-mul-write-category Inv-loop μ-loop
+mul-write-category c = omega (arith, fit c)
+
+sub-write-category : tie.Need-sub-write-category Inv-loop μ-loop
+sub-write-category c = omega arith
+
+part-write-category-start : tie.Need-part-write-category-start Inv-loop μ-loop
+part-write-category-start c = omega arith
+
+part-write-category-end : tie.Need-part-write-category-end Inv-loop μ-loop
+part-write-category-end c = omega (arith, fit c)
+
+write-category-requires : tie.Need-write-category-requires Inv-loop μ-loop
+write-category-requires c κs =
+    let s = c .before .before .before .before .before .before .before .before .before .before in
+    let l = c .before .before .loop in
+    let S = s .args .settings .now in
+    let f = fit (c .before) in
+    let n = c .before .before .before .period-count .result in
+    let at = l .category * n in (
+      s .pre .0,
+      (
+        s .pre .1 .0,
+        (
+          s .pre .1 .1 .0,
+          f .low,
+          s .pre .1 .1 .1,
+          part-width (l .row) at n (at + n - at) (omega arith) (f .inside) ∙ l .inv .1,
+        ),
+      ),
+    )
+
+add-moved : tie.Need-add-moved Inv-loop μ-loop
+add-moved c =
+    let l = c .before .before .before .before .before .loop in
+    let f = fit (c .before .before .before .before) in
+    let before : l .moved ≤ l .category * periodsOf (c .before .before .before .before .before .before .before .before .before .before .before .before .before .args .settings .now) = rw (l .inv .5) (differing-le _ _ _) in
+    let more : c .before .before .write-category .result ≤ periodsOf (c .before .before .before .before .before .before .before .before .before .before .before .before .before .args .settings .now) =
+    rw (c .before .before .write-category .ensures .1) (differing-le _ _ _) in
+    omega (arith, f .whole, f .most)
+
+add-category : tie.Need-add-category Inv-loop μ-loop
+add-category c =
+    let l = c .before .before .before .before .before .loop in
+    let known = ready _ (c .before .before .before .before .before .before .before .before .before .before .before .before .before .pre .0 .0) in
+    omega (arith, c .before .before .before .before .loop-test .taken, l .inv .0, known .categories .1)
+
+loop-less : tie.Need-loop-less Inv-loop μ-loop
+loop-less c = omega (arith, c .before .before .before .before .loop-test .taken)
+
+loop-again : tie.Need-loop-again Inv-loop μ-loop
+loop-again c =
+    let s = c .before .before .before .before .before .before .before .before .before .before .before .before .before in
+    let a = s .args in
+    let S = a .settings .now in
+    let l = c .before .before .before .before .before .loop in
+    let f = fit (c .before .before .before .before) in
+    let call = c .before .before .write-category in
+    let known = ready S (s .pre .0 .0) in
+    let start = ap (λ (n : ℕ). l .category * n) (l .inv .1) in
+    let n = c .before .before .before .before .before .before .period-count .result in
+    let width : l .category * n + n - l .category * n ≡ periodsOf S = rw (← l .inv .1) (omega arith) in
+    let stepped = row-step S (a .sums .now) (a .counts .now) (a .inherited .now) (a .date) (l .category) _ _ known start width
+    (l .row) (a .row .now) (l .inv .4) _ (call .ensures .0) in (
+      l .inv .0,
+      l .inv .1,
+      omega (arith, c .before .before .before .before .loop-test .taken),
+      ap length stepped ∙ filling-length _ (a .row .now) _ (rw (next-stretch (l .category) (periodsOf S)) (omega (arith, f .whole, s .pre .1 .1 .2))),
+      stepped,
+      count-step S (a .sums .now) (a .counts .now) (a .inherited .now) (a .date) (l .category) _ _ known start width
+          (l .row) (a .row .now) (l .inv .4) _ _ (l .inv .5) (call .ensures .1),
+    )
+
+same-length : tie.Need-same-length Inv-loop μ-loop
+same-length c = c .before .loop .inv .3
+
+returns : tie.Need-returns Inv-loop μ-loop
+returns c =
+    let s = c .before .before .before .before .before .before .before .before .before in
+    let l = c .before .loop in
+    let S = s .args .settings .now in
+    let done : l .category ≡ categoriesOf S = omega (arith, l .inv .0, l .inv .2, c .loop-test .left) in
+    let all = row-end S (l .category) done in
+    (filled-whole _ _ (l .row) _ _ (l .inv .4) all (sym (s .pre .1 .1 .2)), counted _ _ _ _ (l .moved) (l .inv .5) all)
+
+pub write-row-spec : {M : Type 1} → statement M
+write-row-spec =
+    tie.close
+    (tie.spec
+    Inv-loop
+    μ-loop
+    category-count-requires
+    period-count-requires
+    loop-holds
+    mul-at
+    add-end
+    mul-write-category
+    sub-write-category
+    part-write-category-start
+    part-write-category-end
+    write-category-requires
+    add-moved
+    add-category
+    loop-less
+    loop-again
+    same-length
+    returns)

@@ -1,0 +1,163 @@
+-- Laws of lists made from a function, of sums and of counts of differences.
+use Prim.Native.Nat.{ℕ, zero, suc, _+_, _*_, _≤_, _<_, zero-le}
+use mathlib.Core.Path.{_≡_, sym, ap, _∙_}
+use mathlib.Core.Bool.{Bool, true, false, and-eq-true-iff}
+use mathlib.Core.List.{List, [], _∷_, _++_, append-assoc, append-nil}
+use native.Mathlib.Nat.{add-zero, add-suc, add-le-add, add-mul, suc-mul}
+use native.Mathlib.Numerals.{add-one}
+use native.Mathlib.Omega.{arith}
+use lib.Dec.{eqb, leb}
+use lib.ListN.{length, getD, take, drop, List·getD-append}
+use lib.Seq.{drop-cons, getD-at, ext-getD, drop-length, getD-append-add, getD-drop, take-at, drop-at, drop-drop}
+use borrow.Table.Steps.{cases}
+use borrow.Author.Tests.{eqb-true, eqb-false, leb-true}
+use Rattle.metering.specs.Laws.{average-le}
+use Rattle.metering.specs.Average.{average}
+use Rattle.metering.specs.Sum.{sumBelow, sumBelow-suc, sumBelow-zero}
+use Rattle.ledger.proofs.Lists.{length-tabulate, getD-tabulate, tabulate-ext, filled, sumBelow-cong, sumBelow-more}
+use Rattle.ledger.specs.Method.{absent, own, pooled}
+use Rattle.ledger.specs.Table.{tabulate, filling}
+use Rattle.ledger.specs.Calls.{differing}
+use Rattle.run_rows.specs.Rows.{differenceOf, isEnough, Averaged, freshBy}
+
+-- ---- lists made from a function
+
+pub tabulate-add : (m n : ℕ) (f : ℕ → ℕ) → tabulate (m + n) f ≡ tabulate m f ++ tabulate n (λ k. f (m + k))
+unfolding tabulate
+tabulate-add m zero f = rw add-zero (sym (append-nil (tabulate m f)))
+tabulate-add m (suc n) f = rw (add-suc m n, tabulate-add m n f) (append-assoc (tabulate m f) (tabulate n (λ k. f (m + k))) (f (m + n) ∷ []))
+
+pub tabulate-getD : (xs : List ℕ) (f : ℕ → ℕ) → ((k : ℕ) → k < length xs → f k ≡ getD xs k 0) → tabulate (length xs) f ≡ xs
+tabulate-getD xs f h =
+    ext-getD 0 (tabulate (length xs) f) xs (length-tabulate (length xs) f)
+    (λ k l. let low : k < length xs = rw (length-tabulate (length xs) f) at l in getD-tabulate (length xs) f k low ∙ h k low)
+
+-- ---- rows while they are filled
+
+module _ (f : ℕ → ℕ) (xs : List ℕ) where
+  -- the next place is as it was
+  pub filling-at : (k : ℕ) → k < length xs → getD (filling k f xs) k 0 ≡ getD xs k 0
+  unfolding filling
+  filling-at k h = rw (drop-cons xs k 0 h) (getD-at (tabulate k f) (getD xs k 0) (drop (suc k) xs) 0 k (length-tabulate k f))
+
+  pub filling-below : (n k : ℕ) → k < n → getD (filling n f xs) k 0 ≡ f k
+  unfolding filling
+  filling-below n k h = List·getD-append (tabulate n f) (drop n xs) 0 k (rw (length-tabulate n f) h) ∙ getD-tabulate n f k h
+
+  pub filling-all : filling (length xs) f xs ≡ tabulate (length xs) f
+  unfolding filling
+  filling-all = rw (drop-length xs) (append-nil (tabulate (length xs) f))
+
+-- past the filled places the row is as it was
+pub filling-beyond : (f : ℕ → ℕ) (xs : List ℕ) (k p : ℕ) → getD (filling k f xs) (k + p) 0 ≡ getD xs (k + p) 0
+unfolding filling
+filling-beyond f xs k p =
+    ap (λ (a : ℕ). getD (tabulate k f ++ drop k xs) (a + p) 0) (sym (length-tabulate k f))
+    ∙ getD-append-add (tabulate k f) (drop k xs) p 0 ∙ getD-drop k xs p 0
+
+-- n places more at once
+pub filling-stretch : (f g : ℕ → ℕ) (xs : List ℕ) (k n : ℕ) → ((p : ℕ) → p < n → g p ≡ f (k + p)) →
+    take k (filling k f xs) ++ (tabulate n g ++ drop n (drop k (filling k f xs))) ≡ filling (k + n) f xs
+unfolding filling
+filling-stretch f g xs k n h =
+    rw (
+      take-at (tabulate k f) (drop k xs) k (length-tabulate k f),
+      drop-at (tabulate k f) (drop k xs) k (length-tabulate k f),
+      drop-drop n k xs,
+      tabulate-ext n g (λ p. f (k + p)) h,
+      tabulate-add k n f,
+    )
+    (sym (append-assoc (tabulate k f) (tabulate n (λ p. f (k + p))) (drop (k + n) xs)))
+
+pub unfilled : (f : ℕ → ℕ) (xs ys : List ℕ) (k : ℕ) → ys ≡ filling k f xs → k < length xs → getD ys k 0 ≡ getD xs k 0
+unfilled f xs ys k so low = rw so (filling-at f xs k low)
+
+pub filled-whole : (f : ℕ → ℕ) (xs ys : List ℕ) (k n : ℕ) → ys ≡ filling k f xs → k ≡ n → n ≡ length xs → ys ≡ tabulate n f
+filled-whole f xs ys k n so is whole =
+    filled f xs ys k (length xs) so (is ∙ whole) ∙ filling-all f xs ∙ ap (λ (m : ℕ). tabulate m f) (sym whole)
+
+-- ---- sums
+
+-- a sum of terms that are each at most w times another's
+pub sumBelow-times : (n w : ℕ) (f g : ℕ → ℕ) → ((k : ℕ) → k < n → f k ≤ g k * w) → sumBelow n f ≤ sumBelow n g * w
+unfolding sumBelow
+sumBelow-times zero w f g h = zero-le
+sumBelow-times (suc n) w f g h =
+    rw (add-mul (sumBelow n g) (g n) w) (add-le-add (sumBelow-times n w f g (λ k l. h k (omega arith))) (h n (omega arith)))
+
+pub sumBelow-most : (n b : ℕ) (f : ℕ → ℕ) → ((k : ℕ) → k < n → f k ≤ b) → sumBelow n f ≤ n * b
+unfolding sumBelow
+sumBelow-most zero b f h = zero-le
+sumBelow-most (suc n) b f h = rw (suc-mul n b) (add-le-add (sumBelow-most n b f (λ k l. h k (omega arith))) (h n (omega arith)))
+
+-- ---- differences
+
+pub differenceOf-le : (a b : ℕ) → differenceOf a b ≤ 1
+unfolding differenceOf
+differenceOf-le a b = cases (eqb a b) (λ e. rw e (omega arith)) (λ e. rw e (omega arith))
+
+pub differing-zero : (f g : ℕ → ℕ) → differing 0 f g ≡ 0
+unfolding differing
+differing-zero f g = sumBelow-zero _
+
+pub differing-suc : (n : ℕ) (f g : ℕ → ℕ) → differing (suc n) f g ≡ differing n f g + differenceOf (f n) (g n)
+unfolding differing differenceOf
+differing-suc n f g = sumBelow-suc n _
+
+pub differing-le : (n : ℕ) (f g : ℕ → ℕ) → differing n f g ≤ n
+differing-le zero f g = rw (differing-zero f g) zero-le
+differing-le (suc n) f g = rw (differing-suc n f g) (omega (arith, differing-le n f g, differenceOf-le (f n) (g n)))
+
+-- a loop's turn: one more place is compared
+pub count-next : (f g : ℕ → ℕ) (k moved d : ℕ) → moved ≡ differing k f g → d ≡ differenceOf (f k) (g k) → moved + d ≡ differing (k + 1) f g
+count-next f g k moved d so is = rw (so, is, add-one k) (sym (differing-suc k f g))
+
+pub counted : (f g : ℕ → ℕ) (k n moved : ℕ) → moved ≡ differing k f g → k ≡ n → moved ≡ differing n f g
+counted f g k n moved so is = so ∙ ap (λ (m : ℕ). differing m f g) is
+
+pub differing-ext : (n : ℕ) (f f′ g g′ : ℕ → ℕ) → ((k : ℕ) → k < n → f k ≡ f′ k) → ((k : ℕ) → k < n → g k ≡ g′ k) → differing n f g ≡ differing n f′ g′
+unfolding differing
+differing-ext n f f′ g g′ p q = sumBelow-cong n _ _ (λ k l. rw (p k l, q k l))
+
+pub differing-add : (m n : ℕ) (f g : ℕ → ℕ) → differing (m + n) f g ≡ differing m f g + differing n (λ k. f (m + k)) (λ k. g (m + k))
+unfolding differing
+differing-add m n f g = sumBelow-more m n _
+
+differenceOf-zero : (a b : ℕ) → differenceOf a b ≡ 0 → a ≡ b
+unfolding differenceOf
+differenceOf-zero a b z = cases (eqb a b) (λ e. eqb-true a b e) (λ e. let one : 1 ≡ 0 = rw e at z in absurd (omega arith))
+
+-- where nothing differs, all is equal
+pub differing-none : (n : ℕ) (f g : ℕ → ℕ) → differing n f g ≡ 0 → (k : ℕ) → k < n → f k ≡ g k
+differing-none zero f g h k l = absurd (omega arith)
+differing-none (suc n) f g h k l =
+    let s = rw (differing-suc n f g) at h in
+    cases (eqb k n)
+    (λ e. let is = eqb-true k n e in rw is (differenceOf-zero (f n) (g n) (omega arith)))
+    (λ e. let no : k ≡ n → ⊥ = eqb-false k n e in differing-none n f g (omega arith) k (omega arith))
+
+-- ---- averages
+
+pub enough-count : (n m : ℕ) → isEnough n m ≡ true → 1 ≤ n
+unfolding isEnough
+enough-count n m e = leb-true 1 n (and-eq-true-iff (leb 1 n) (leb m n) .0 e .0)
+
+pub average-bound : (s n : ℕ) → 1 ≤ n → Averaged s n → average s n < 4294967296
+average-bound s n low a = omega (arith, average-le s n 4294967295 low (a .sum))
+
+module _ (smart : Bool) (m s n S K : ℕ) where
+  pub fresh-own : isEnough n m ≡ true → freshBy smart m s n S K ≡ own (average s n) n
+  unfolding freshBy
+  fresh-own e = rw e
+
+  pub fresh-pooled : isEnough n m ≡ false → smart ≡ true → isEnough K m ≡ true → freshBy smart m s n S K ≡ pooled (average S K) K
+  unfolding freshBy
+  fresh-pooled few e k = rw (few, e, k)
+
+  pub fresh-absent : isEnough n m ≡ false → smart ≡ true → isEnough K m ≡ false → freshBy smart m s n S K ≡ absent
+  unfolding freshBy
+  fresh-absent few e k = rw (few, e, k)
+
+  pub fresh-advanced : isEnough n m ≡ false → smart ≡ false → freshBy smart m s n S K ≡ absent
+  unfolding freshBy
+  fresh-advanced few e = rw (few, e)
