@@ -21,7 +21,8 @@ use Rattle.ledger.specs.Store.{metersOf, categoriesOf, datesOf, periodsOf, rowL
 use Rattle.ledger.specs.Table.{tabulate, filling}
 use Rattle.ledger.specs.Calls.{countsFor, tally, familyTally, freshAt, rowAt, putRow, lastRun, inheritedFrom, comparedEntry, differing, carriedEntry, Ran, followRow, inheritedAfter, movedInRow, carryOn, newRow, ranFrom, runUnready, runVerdict}
 use Rattle.store.specs.Entry.{reading-bound}
-use Rattle.run_rows.specs.Rows.{isEnough, freshBy, followedEntry, inheritedBeyond}
+use Rattle.run_rows.specs.Shape.{isEnough, freshBy}
+use Rattle.run_rows.specs.Later.{followedEntry, inheritedBeyond}
 use Rattle.ledger.proofs.Lists.{length-tabulate, getD-tabulate, sumBelow-cong, tabulate-ext}
 use Rattle.run_rows.proofs.Laws.{tabulate-getD, filling-below, sumBelow-times, differing-le, differing-ext, differing-none}
 use Rattle.run_date.specs.Sums.{spliced, tallyBelow, Tallied, Bounded, pooledBelow, entryFrom, rowFrom}

@@ -1,6 +1,6 @@
 // What dates take over from the run date of their day type before them.
-use run_rows::carry_row;
-use run_rows::follow_row;
+use run_rows::later::carry_row;
+use run_rows::later::follow_row;
 use store::category::day_type;
 use store::run_mark::is_run;
 use store::settings::category_count;

@@ -6,7 +6,7 @@ use crate::carry::inherit;
 use crate::carry::row_length;
 use run_date::sums::tally_date;
 use run_date::write::write_row;
-use run_rows::carry_row;
+use run_rows::later::carry_row;
 use store::category::day_type;
 use store::entry::BLANK_ENTRY;
 use store::outcome::RunOutcome;

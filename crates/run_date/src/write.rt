@@ -1,6 +1,6 @@
 // The date's own row, category by category.
-use run_rows::add_row;
-use run_rows::shape_row;
+use run_rows::shape::shape_row;
+use run_rows::sums::add_row;
 use store::category::de_minimis;
 use store::category::is_smart;
 use store::category::same_family;

@@ -18,7 +18,8 @@ use Rattle.ledger.proofs.Lists.{length-tabulate, getD-tabulate, tabulate-ext, f
 use Rattle.ledger.specs.Method.{absent, own, pooled}
 use Rattle.ledger.specs.Table.{tabulate, filling}
 use Rattle.ledger.specs.Calls.{differing}
-use Rattle.run_rows.specs.Rows.{differenceOf, isEnough, Averaged, freshBy}
+use Rattle.run_rows.specs.Shape.{isEnough, Averaged, freshBy}
+use Rattle.run_rows.specs.Later.{differenceOf}
 
 -- ---- lists made from a function
 

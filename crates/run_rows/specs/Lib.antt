@@ -1,2 +1,4 @@
 -- What the row functions say beyond the ledger crate's definitions.
-pub mod Rows
+pub mod Sums
+pub mod Shape
+pub mod Later

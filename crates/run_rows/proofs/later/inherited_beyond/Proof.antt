@@ -1,8 +1,8 @@
 -- `run_rows::inherited_beyond` meets its contract.
 use borrow.Author.Needs.{needs}
-use Rattle.run_rows.specs.Rows.{inheritedBeyond}
-use Rattle.run_rows.proofs.inherited_beyond.Statement.{statement}
-use Rattle.run_rows.proofs.inherited_beyond.Tie as tie
+use Rattle.run_rows.specs.Later.{inheritedBeyond}
+use Rattle.run_rows.proofs.later.inherited_beyond.Statement.{statement}
+use Rattle.run_rows.proofs.later.inherited_beyond.Tie as tie
 
 is-own-requires : tie.Need-is-own-requires
 is-own-requires c κs = search needs

@@ -8,8 +8,8 @@ use Rattle.ledger.specs.Store.{entryOf}
 use Rattle.store.specs.Entry.{cellWith}
 use Rattle.run_rows.proofs.Laws.{enough-count, average-bound, fresh-own, fresh-pooled, fresh-absent, fresh-advanced}
 use borrow.Author.Needs.{needs}
-use Rattle.run_rows.proofs.shape_entry.Statement.{statement}
-use Rattle.run_rows.proofs.shape_entry.Tie as tie
+use Rattle.run_rows.proofs.shape.shape_entry.Statement.{statement}
+use Rattle.run_rows.proofs.shape.shape_entry.Tie as tie
 
 enough-requires : tie.Need-enough-requires
 enough-requires c κs = search needs

@@ -1,8 +1,8 @@
 -- `run_rows::enough` meets its contract: the code's tests are the definition's.
 use borrow.Author.Tests.{le-leb, lt-leb}
-use Rattle.run_rows.specs.Rows.{isEnough}
-use Rattle.run_rows.proofs.enough.Statement.{statement}
-use Rattle.run_rows.proofs.enough.Tie as tie
+use Rattle.run_rows.specs.Shape.{isEnough}
+use Rattle.run_rows.proofs.shape.enough.Statement.{statement}
+use Rattle.run_rows.proofs.shape.enough.Tie as tie
 
 returns : tie.Need-returns
 unfolding isEnough

@@ -7,8 +7,8 @@ use lib.ListN.{length, getD, length-set}
 use Rattle.ledger.specs.Calls.{carriedEntry}
 use Rattle.ledger.specs.Table.{filling}
 use Rattle.ledger.proofs.Lists.{filling-zero, fill, filled}
-use Rattle.run_rows.proofs.carry_row.Statement.{statement}
-use Rattle.run_rows.proofs.carry_row.Tie as tie
+use Rattle.run_rows.proofs.later.carry_row.Statement.{statement}
+use Rattle.run_rows.proofs.later.carry_row.Tie as tie
 
 abbrev Inv-loop : tie.InvT-loop
 Inv-loop cells at row inherited₀ k₀ inherited k =

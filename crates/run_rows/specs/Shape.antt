@@ -1,22 +1,12 @@
--- Rows with something added, and a category's entry from sums and counts.
+-- A category's entry from sums and counts.
 use Prim.Native.Nat.{ℕ, _+_, _*_, _≤_}
 use mathlib.Core.Bool.{Bool, _&&_, cond}
 use mathlib.Core.List.{List}
-use mathlib.Core.Option.{Option}
-use lib.Dec.{leb, eqb}
+use lib.Dec.{leb}
 use lib.ListN.{getD}
 use Rattle.metering.specs.Average.{average}
 use Rattle.ledger.specs.Method.{Fresh, absent, own, pooled}
-use Rattle.ledger.specs.Store.{readingOf}
-use Rattle.ledger.specs.Calls.{carriedEntry, isOwn, rowEntry}
-
--- place p of a row with the readings that start at `first` added to it
-abbrev pub setAdded : (Option ℕ → ℕ) → List ℕ → ℕ → List ℕ → ℕ → ℕ
-setAdded measure readings first xs p = getD xs p 0 + measure (readingOf (getD readings (first + p) 0))
-
--- the same with the stretch of `rows` that starts at `at`
-abbrev pub rowAdded : List ℕ → ℕ → List ℕ → ℕ → ℕ
-rowAdded rows at xs p = getD xs p 0 + getD rows (at + p) 0
+use Rattle.ledger.specs.Calls.{rowEntry}
 
 -- at least one reading, and as many as de-minimis asks
 unfoldable pub isEnough : ℕ → ℕ → Bool
@@ -38,14 +28,3 @@ shapeAt smart m date sums counts inherited at familySums familyCounts p =
 pub record Averaged (s n : ℕ) : Type 0 where
   pub sum : s ≤ n * 4294967295
   pub count : n ≤ 65536
-
--- 1 where two entries differ
-unfoldable pub differenceOf : ℕ → ℕ → ℕ
-differenceOf a b = cond (eqb a b) 0 1
-
--- a later date's cell, and what the date after it takes over, from its entry and what it would take over itself
-unfoldable pub followedEntry : ℕ → ℕ → ℕ
-followedEntry old inherited = cond (isOwn old) old inherited
-
-unfoldable pub inheritedBeyond : ℕ → ℕ → ℕ
-inheritedBeyond old inherited = cond (isOwn old) (carriedEntry old) inherited

@@ -5,12 +5,12 @@ use native.Mathlib.Omega.{arith}
 use borrow.Author.Needs.{needs}
 use lib.ListN.{length, getD, length-set}
 use Rattle.ledger.specs.Calls.{differing}
-use Rattle.run_rows.specs.Rows.{followedEntry, inheritedBeyond, differenceOf}
+use Rattle.run_rows.specs.Later.{followedEntry, inheritedBeyond, differenceOf}
 use Rattle.ledger.specs.Table.{filling}
 use Rattle.run_rows.proofs.Laws.{unfilled, filled-whole, differing-zero, differing-le, differenceOf-le, count-next, counted}
 use Rattle.ledger.proofs.Lists.{filling-zero, fill, filled}
-use Rattle.run_rows.proofs.follow_row.Statement.{statement}
-use Rattle.run_rows.proofs.follow_row.Tie as tie
+use Rattle.run_rows.proofs.later.follow_row.Statement.{statement}
+use Rattle.run_rows.proofs.later.follow_row.Tie as tie
 
 abbrev Inv-loop : tie.InvT-loop
 Inv-loop row₀ inherited₀ moved₀ k₀ row inherited moved k =

@@ -1,8 +1,8 @@
 -- `run_rows::difference` meets its contract.
 use borrow.Author.Tests.{eq-eqb, ne-eqb}
-use Rattle.run_rows.specs.Rows.{differenceOf}
-use Rattle.run_rows.proofs.difference.Statement.{statement}
-use Rattle.run_rows.proofs.difference.Tie as tie
+use Rattle.run_rows.specs.Later.{differenceOf}
+use Rattle.run_rows.proofs.moved.difference.Statement.{statement}
+use Rattle.run_rows.proofs.moved.difference.Tie as tie
 
 returns : tie.Need-returns
 unfolding differenceOf

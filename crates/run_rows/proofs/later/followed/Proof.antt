@@ -1,8 +1,8 @@
 -- `run_rows::followed` meets its contract.
 use borrow.Author.Needs.{needs}
-use Rattle.run_rows.specs.Rows.{followedEntry}
-use Rattle.run_rows.proofs.followed.Statement.{statement}
-use Rattle.run_rows.proofs.followed.Tie as tie
+use Rattle.run_rows.specs.Later.{followedEntry}
+use Rattle.run_rows.proofs.later.followed.Statement.{statement}
+use Rattle.run_rows.proofs.later.followed.Tie as tie
 
 is-own-requires : tie.Need-is-own-requires
 is-own-requires c κs = search needs

@@ -5,12 +5,13 @@ use native.Mathlib.Omega.{arith}
 use borrow.Author.Needs.{needs}
 use lib.ListN.{length, getD, length-set}
 use Rattle.ledger.specs.Calls.{differing, comparedEntry}
-use Rattle.run_rows.specs.Rows.{shapeAt, differenceOf}
+use Rattle.run_rows.specs.Shape.{shapeAt}
+use Rattle.run_rows.specs.Later.{differenceOf}
 use Rattle.ledger.specs.Table.{filling}
 use Rattle.run_rows.proofs.Laws.{unfilled, filled-whole, differing-zero, differing-le, differenceOf-le, count-next, counted}
 use Rattle.ledger.proofs.Lists.{filling-zero, fill}
-use Rattle.run_rows.proofs.shape_row.Statement.{statement}
-use Rattle.run_rows.proofs.shape_row.Tie as tie
+use Rattle.run_rows.proofs.shape.shape_row.Statement.{statement}
+use Rattle.run_rows.proofs.shape.shape_row.Tie as tie
 
 abbrev Inv-loop : tie.InvT-loop
 Inv-loop smart de-minimis date sums counts inherited at family-sums family-counts row₀ moved₀ p₀ row moved p =
