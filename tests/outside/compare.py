@@ -2,13 +2,16 @@
 
     python3 compare.py PROGRAM [--profile small|wide] [--streams N] [--commands N]
                        [--seed S] [--jobs J]
+    python3 compare.py PROGRAM --fixed DIRECTORY..
 
 PROGRAM is a command line, such as './program' or 'python3 program.py'. Streams
 have the seeds S, S + 1 and so on. Exit status 1 at the first difference, or if
-an answer, flag or way to `bad` that can be reached was not.
+an answer, flag or way to `bad` that can be reached was not. With --fixed the
+program is given DIRECTORY/stdin and has to write DIRECTORY/stdout.
 """
 
 import argparse
+import pathlib
 import shlex
 import shutil
 import subprocess
@@ -124,6 +127,14 @@ def compare(program, profile, commands, seed):
     return Result(seed, answered, reached_by(data, expected), ours, theirs, difference)
 
 
+def compare_fixed(program, directory):
+    data, expected = ((directory / name).read_bytes() for name in ('stdin', 'stdout'))
+    heard = subprocess.run(program, input=data, capture_output=True, timeout=120)
+    agreed = heard.returncode == 0 and heard.stdout == expected
+    print(f'{directory}: {"agreed" if agreed else "differs"}')
+    return agreed
+
+
 def print_table(reached):
     print('answer' + ''.join(f'{command:>9}' for command in COMMANDS))
     for answer in ('ok', *sorted({n for key, n in reached if key in COMMANDS and n != 'ok'})):
@@ -143,10 +154,13 @@ def main():
     parser.add_argument('--commands', type=int, default=200)
     parser.add_argument('--seed', type=int, default=1)
     parser.add_argument('--jobs', type=int, default=2)
+    parser.add_argument('--fixed', type=pathlib.Path, nargs='+', metavar='DIRECTORY')
     options = parser.parse_args()
     program = shlex.split(options.program)
     if not program or shutil.which(program[0]) is None:
         parser.error(f'no such program: {options.program}')
+    if options.fixed:
+        return 0 if all([compare_fixed(program, directory) for directory in options.fixed]) else 1
     work = partial(compare, program, options.profile, options.commands)
     seeds = range(options.seed, options.seed + options.streams)
     begin, reached = time.perf_counter(), Counter()

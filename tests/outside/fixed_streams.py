@@ -2,10 +2,10 @@
 
     python3 fixed_streams.py DIRECTORY
 
-Writes NAME/stdin and NAME/stdout into DIRECTORY for shaper (the paper's worked
-example), shaper_late_day, shaper_refusals, shaper_wide and netting_test, which
-writes the nets of its store behind the answers. Answers and nets are the plain
-ledger's.
+Writes NAME/stdin and NAME/stdout into DIRECTORY: for the programs shaper (the
+paper's worked example), shaper_wide and net_test, which writes the nets of its
+store behind the answers; and late_day and refusals, two more for shaper.
+Answers and nets are the plain ledger's.
 """
 
 import pathlib
@@ -191,20 +191,20 @@ def net_line(ledger, date, category, all_groups, numbers=50, marks=50):
     return ' '.join(map(str, ('net', date, category, int(all_groups), *answer)))
 
 
-PROGRAMS = {'shaper': (INPUT, PROFILES['small']),
-            'shaper_late_day': (late_day(), PROFILES['small']),
-            'shaper_refusals': (refusals(), PROFILES['small']),
-            'shaper_wide': (wide(), PROFILES['wide']),
-            'netting_test': (net_store(), Limits(12, 12, 12 * 48, 12))}
+STREAMS = {'shaper': (INPUT, PROFILES['small']),
+           'late_day': (late_day(), PROFILES['small']),
+           'refusals': (refusals(), PROFILES['small']),
+           'shaper_wide': (wide(), PROFILES['wide']),
+           'net_test': (net_store(), Limits(12, 12, 12 * 48, 12))}
 
 
 def main():
     if len(sys.argv) != 2:
         sys.exit(__doc__)
-    for name, (stream, limits) in PROGRAMS.items():
+    for name, (stream, limits) in STREAMS.items():
         program = Program(stream, limits)
         lines = [answer.line for answer in program.answers()]
-        if name == 'netting_test':
+        if name == 'net_test':
             lines += net_lines(program.ledger)
         folder = pathlib.Path(sys.argv[1]) / name
         folder.mkdir(parents=True, exist_ok=True)
