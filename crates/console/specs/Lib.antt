@@ -1,3 +1,2 @@
 -- What the console's contracts cite.
-pub mod Commands
 pub mod Session

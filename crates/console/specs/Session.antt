@@ -8,7 +8,8 @@ use lib.Dec.{leb, ltb}
 use Rattle.input.specs.Form.{extentOf}
 use Rattle.input.specs.declared.extent.Extent.{Extent}
 use Rattle.input.specs.declared.extent.Extent.the-variants.{Whole, Cut, Bad}
-use Rattle.console.specs.Commands.{Most, State, partsOf, lineFor, stateAfter}
+use Rattle.commands.specs.Commands.{State, partsOf, lineFor, stateAfter}
+use Rattle.commands.specs.declared.capacity.Capacity.{Capacity}
 use Rattle.console.specs.declared.session.Session.{Session}
 
 -- the bytes not yet taken lie within the input block
@@ -62,8 +63,8 @@ nextExtent s input categoryRecords dayTypes =
     extentOf (untaken s input) (leb 8 (length categoryRecords - s .«category_bytes»)) (ltb (s .«day_types») (length dayTypes))
 
 -- what a turn does: a whole command is obeyed and passed, of a cut one more is read, and bytes that are none end the dialogue with `bad`
-abbrev pub AfterTurn : Most → Session → State → List ℕ → Extent → List ℕ → Session → State → List ℕ → Type 0
-AfterTurn m s state bytes (Whole n) waited r after waits =
-    (r .at ≡ s .at + n) × (after ≡ stateAfter m state bytes) × Printed waited (lineFor m state bytes) waits
-AfterTurn m s state bytes Cut waited r after waits = after ≡ state
-AfterTurn m s state bytes Bad waited r after waits = (after ≡ state) × (r .ended ≡ true) × Printed waited badLine waits
+abbrev pub AfterTurn : Capacity → Session → State → List ℕ → Extent → List ℕ → Session → State → List ℕ → Type 0
+AfterTurn capacity s state bytes (Whole n) waited r after waits =
+    (r .at ≡ s .at + n) × (after ≡ stateAfter capacity state bytes) × Printed waited (lineFor capacity state bytes) waits
+AfterTurn capacity s state bytes Cut waited r after waits = after ≡ state
+AfterTurn capacity s state bytes Bad waited r after waits = (after ≡ state) × (r .ended ≡ true) × Printed waited badLine waits

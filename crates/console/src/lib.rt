@@ -1,5 +1,4 @@
 // The command program's work: commands in from standard input, answers out to standard output.
-mod calls;
 mod session;
 
 pub use session::converse;

@@ -1,5 +1,5 @@
 // Blocks of input taken command by command, and the answers gathered into blocks of output.
-use crate::calls;
+use commands::Capacity;
 use input::extent::Extent;
 use input::extent::command_extent;
 use libc::STDIN_FILENO;
@@ -9,10 +9,7 @@ ghost use mathlib.Core.Path.{_≡_};
 ghost use Prim.Native.Nat.{_+_, _≤_};
 ghost use lib.ListN.{length, take, drop, getD};
 ghost use Rattle.input.specs.Form.{Command};
-ghost use Rattle.ledger.specs.Engine.{callAnswer};
-ghost use Rattle.output.specs.Text.{Appended};
-ghost use Rattle.output.specs.Lines.{answerLine};
-ghost use Rattle.console.specs.Commands.{partsOf, most, code, callOf, callLeaves, lineFor, stateAfter};
+ghost use Rattle.commands.specs.Commands.{lineFor, stateAfter};
 ghost use Rattle.console.specs.Session.{BlockBounds, Held, Room, RoomFor, Printed, stateOf, badLine, untaken, nextExtent, AfterTurn};
 
 // The input block's next byte and the one past its last; how much of the lent category records
@@ -88,40 +85,6 @@ fn refill(session: Session, input: &mut [u8], output: &mut [u8]) -> Session
     next
 }
 
-// A command that asks the opened store.
-fn ask(
-    command: &[u8],
-    settings: &[u8],
-    meters: &mut [u64],
-    readings: &mut [u64],
-    cells: &mut [u64],
-    output: &mut [u8],
-    at: usize,
-) -> usize
-    requires { ⌜ Command (now command) × (at + 300 ≤ length (now output)) ⌝ }
-    requires { ⌜ (getD (now command) 0 0 ≡ 16 → ⊥) × (getD (now command) 0 0 ≡ 17 → ⊥) × (getD (now command) 0 0 ≡ 18 → ⊥) ⌝ }
-    ensures { λ r. ⌜ Appended (now (output .entry)) at (now (output .exit)) r (answerLine (code (now (command .entry))) (callAnswer (partsOf (now (settings .entry)) (now (meters .entry)) (now (readings .entry)) (now (cells .entry))) (callOf (now (command .entry))))) ⌝ }
-    ensures { λ r. ⌜ partsOf (now (settings .entry)) (now (meters .exit)) (now (readings .exit)) (now (cells .exit)) ≡ callLeaves (partsOf (now (settings .entry)) (now (meters .entry)) (now (readings .entry)) (now (cells .entry))) (callOf (now (command .entry))) ⌝ }
-    ensures { λ r. ⌜ r ≤ at + 300 ⌝ }
-{
-    let code = command[0];
-    match code {
-        0x13 => calls::register(command, settings, meters, &readings[..], output, at),
-        0x14 => calls::receive(command, settings, &meters[..], readings, output, at),
-        0x16 => calls::run(
-            command,
-            settings,
-            &meters[..],
-            &readings[..],
-            cells,
-            output,
-            at,
-        ),
-        0x17 => calls::totals(command, settings, &cells[..], output, at),
-        _ => calls::cell(command, settings, &cells[..], output, at),
-    }
-}
-
 // Obeys the command that the bytes start with.
 fn obey(
     session: Session,
@@ -133,16 +96,15 @@ fn obey(
     meters: &mut [u64],
     readings: &mut [u64],
     cells: &mut [u64],
-    most_meters: u64,
-    most_date_periods: u64,
+    capacity: Capacity,
 ) -> Session
     requires { ⌜ Command (now command) ⌝ }
     requires { ⌜ Held session (length (now output)) (length (now «category_records»)) (length (now «day_types»)) ⌝ }
     requires { ⌜ Room session (getD (now command) 0 0) (length (now «category_records»)) (length (now «day_types»)) ⌝ }
     ensures { λ r. ⌜ Held r (length (now (output .entry))) (length (now («category_records» .entry))) (length (now («day_types» .entry))) ⌝ }
     ensures { λ r. ⌜ (r .at ≡ session .at) × (r .end ≡ session .end) ⌝ }
-    ensures { λ r. ⌜ stateOf r (now («category_records» .exit)) (now («day_types» .exit)) (now (settings .exit)) (now (meters .exit)) (now (readings .exit)) (now (cells .exit)) ≡ stateAfter (most «most_meters» «most_date_periods») (stateOf session (now («category_records» .entry)) (now («day_types» .entry)) (now (settings .entry)) (now (meters .entry)) (now (readings .entry)) (now (cells .entry))) (now (command .entry)) ⌝ }
-    ensures { λ r. ⌜ Printed (take (session .waiting) (now (output .entry))) (lineFor (most «most_meters» «most_date_periods») (stateOf session (now («category_records» .entry)) (now («day_types» .entry)) (now (settings .entry)) (now (meters .entry)) (now (readings .entry)) (now (cells .entry))) (now (command .entry))) (take (r .waiting) (now (output .exit))) ⌝ }
+    ensures { λ r. ⌜ stateOf r (now («category_records» .exit)) (now («day_types» .exit)) (now (settings .exit)) (now (meters .exit)) (now (readings .exit)) (now (cells .exit)) ≡ stateAfter capacity (stateOf session (now («category_records» .entry)) (now («day_types» .entry)) (now (settings .entry)) (now (meters .entry)) (now (readings .entry)) (now (cells .entry))) (now (command .entry)) ⌝ }
+    ensures { λ r. ⌜ Printed (take (session .waiting) (now (output .entry))) (lineFor capacity (stateOf session (now («category_records» .entry)) (now («day_types» .entry)) (now (settings .entry)) (now (meters .entry)) (now (readings .entry)) (now (cells .entry))) (now (command .entry))) (take (r .waiting) (now (output .exit))) ⌝ }
 {
     let mut next = session;
     let code = command[0];
@@ -158,7 +120,7 @@ fn obey(
     if code == 0x10 {
         let category_bytes = next.category_bytes;
         let dates = next.day_types;
-        next.waiting = calls::open(
+        next.waiting = commands::open(
             command,
             &category_records[..category_bytes],
             &day_types[..dates],
@@ -166,8 +128,7 @@ fn obey(
             meters,
             readings,
             cells,
-            most_meters,
-            most_date_periods,
+            capacity,
             output,
             at,
         );
@@ -175,7 +136,7 @@ fn obey(
         next.day_types = 0;
         return next;
     }
-    next.waiting = ask(command, &settings[..], meters, readings, cells, output, at);
+    next.waiting = commands::ask(command, &settings[..], meters, readings, cells, output, at);
     next
 }
 
@@ -190,14 +151,13 @@ fn turn(
     meters: &mut [u64],
     readings: &mut [u64],
     cells: &mut [u64],
-    most_meters: u64,
-    most_date_periods: u64,
+    capacity: Capacity,
 ) -> Session
     requires { ⌜ BlockBounds session (length (now input)) ⌝ }
     requires { ⌜ Held session (length (now output)) (length (now «category_records»)) (length (now «day_types»)) ⌝ }
     ensures { λ r. ⌜ BlockBounds r (length (now (input .entry))) ⌝ }
     ensures { λ r. ⌜ Held r (length (now (output .entry))) (length (now («category_records» .entry))) (length (now («day_types» .entry))) ⌝ }
-    ensures { λ r. ⌜ AfterTurn (most «most_meters» «most_date_periods») session (stateOf session (now («category_records» .entry)) (now («day_types» .entry)) (now (settings .entry)) (now (meters .entry)) (now (readings .entry)) (now (cells .entry))) (untaken session (now (input .entry))) (nextExtent session (now (input .entry)) (now («category_records» .entry)) (now («day_types» .entry))) (take (session .waiting) (now (output .entry))) r (stateOf r (now («category_records» .exit)) (now («day_types» .exit)) (now (settings .exit)) (now (meters .exit)) (now (readings .exit)) (now (cells .exit))) (take (r .waiting) (now (output .exit))) ⌝ }
+    ensures { λ r. ⌜ AfterTurn capacity session (stateOf session (now («category_records» .entry)) (now («day_types» .entry)) (now (settings .entry)) (now (meters .entry)) (now (readings .entry)) (now (cells .entry))) (untaken session (now (input .entry))) (nextExtent session (now (input .entry)) (now («category_records» .entry)) (now («day_types» .entry))) (take (session .waiting) (now (output .entry))) r (stateOf r (now («category_records» .exit)) (now («day_types» .exit)) (now (settings .exit)) (now (meters .exit)) (now (readings .exit)) (now (cells .exit))) (take (r .waiting) (now (output .exit))) ⌝ }
 {
     let at = session.at;
     let end = session.end;
@@ -218,8 +178,7 @@ fn turn(
                 meters,
                 readings,
                 cells,
-                most_meters,
-                most_date_periods,
+                capacity,
             )
         }
         Extent::Cut => refill(session, input, output),
@@ -241,8 +200,7 @@ fn take_turns(
     meters: &mut [u64],
     readings: &mut [u64],
     cells: &mut [u64],
-    most_meters: u64,
-    most_date_periods: u64,
+    capacity: Capacity,
 )
     requires { ⌜ 300 ≤ length (now output) ⌝ }
 {
@@ -266,8 +224,7 @@ fn take_turns(
             meters,
             readings,
             cells,
-            most_meters,
-            most_date_periods,
+            capacity,
         );
         turns -= 1;
     }
@@ -283,8 +240,7 @@ pub fn converse(
     meters: &mut [u64],
     readings: &mut [u64],
     cells: &mut [u64],
-    most_meters: u64,
-    most_date_periods: u64,
+    capacity: Capacity,
 ) {
     let mut input = io::large_buffer();
     let mut output = io::large_buffer();
@@ -297,7 +253,6 @@ pub fn converse(
         meters,
         readings,
         cells,
-        most_meters,
-        most_date_periods,
+        capacity,
     );
 }

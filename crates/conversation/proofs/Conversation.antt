@@ -1,7 +1,7 @@
 -- Conversations: every command prints what the plain ledger says, from an accepted opening to the next.
 use Prim.Native.Nat.{ℕ, zero, suc, _+_, _*_, _/_, _≤_, min}
-use mathlib.Core.Path.{_≡_, refl, sym, ap}
-use mathlib.Core.Bool.{Bool, true, false}
+use mathlib.Core.Path.{_≡_, refl, sym, ap, _∙_}
+use mathlib.Core.Bool.{Bool, true, false, cond}
 use mathlib.Core.List.{List, [], _∷_, _++_, append-nil}
 use native.Mathlib.Omega.{arith}
 use native.Mathlib.Nat.{not-suc-le-zero}
@@ -13,21 +13,21 @@ use borrow.Author.Tests.{lt-ltb, eqb-true, eqb-false, ne-eqb}
 use Rattle.ledger.specs.Sizes.{settingsLength}
 use Rattle.ledger.specs.Checks.{Verdict}
 use Rattle.ledger.specs.Ledger.{Ledger, start, Call, answer, accepted, left, settingsShort, metersShort, anyShort, Lengths, ledgerAnswer, ledgerAfter, Opening}
-use Rattle.ledger.specs.Calls.{openingVerdict, openedSettings, openedMeters, openedReadings, openedCells}
-use Rattle.ledger.specs.Engine.{Parts, callAnswer, metersAfter, readingsAfter, cellsAfter, cut, partsAfter, cutLengths, lengthsOf, openedParts, AreBytes, BodyOfBytes}
+use Rattle.ledger.specs.Calls.{openingVerdict}
+use Rattle.ledger.specs.Engine.{Parts, callAnswer, leaves, openedParts, afterOpening, cut, restored, partsAfter, cutLengths, lengthsOf, AreBytes, BodyOfBytes}
 use Rattle.ledger.proofs.Verdicts.{left-none, left-some, accepted-none}
 use Rattle.ledger.proofs.Open.{opening-accepted}
-use Rattle.ledger.proofs.Agreement.{Agrees, item-step, opened-agrees, simulation}
+use Rattle.ledger.proofs.Agreement.{Agrees, left-agrees, item-step, opened-agrees, simulation}
 use Rattle.input.specs.Operands.{receptionOperands, bodyOf}
 use Rattle.output.specs.Lines.{answerLine}
-use Rattle.console.specs.Commands.{Most, State, code, openingOf, sufficesFor, lent, openingAnswer, openingLeaves, callOf, callLeaves, lineFor, stateAfter}
+use Rattle.commands.specs.Commands.{State, code, openingOf, sufficesFor, openingVerdictOn, openingAnswer, openingLeaves, callOf, lineFor, stateAfter}
+use Rattle.commands.specs.declared.capacity.Capacity.{Capacity}
 use Rattle.conversation.specs.Conversation.{Plain, plainOpening, plainLine, plainAfter, Conversation}
-use Rattle.console.proofs.Laws.{collects-category, collects-day-type, uses-up, asks}
+use Rattle.commands.proofs.Laws.{collects-category, collects-day-type, uses-up, asks}
 
 -- ---- parts lent whole
 
 cut-whole : (p : Parts) → cut (lengthsOf p) p ≡ p
-unfolding cut
 cut-whole p =
     λ i.
     record {
@@ -40,17 +40,16 @@ cut-whole p =
 put-back : (xs ys : List ℕ) → xs ++ drop (length ys) ys ≡ xs
 put-back xs ys = rw (drop-length ys) (append-nil xs)
 
-after-whole : (p : Parts) (c : Call) → partsAfter p (record { lent = lengthsOf p; call = c }) ≡ callLeaves p c
-unfolding partsAfter
-after-whole p c =
-    rw (cut-whole p)
-    (λ i.
+restored-whole : (p q : Parts) → restored (lengthsOf p) p q ≡ q
+unfolding restored
+restored-whole p q =
+    λ i.
     record {
-      settings = p .settings;
-      meters = put-back (metersAfter p c) (p .meters) i;
-      readings = put-back (readingsAfter p c) (p .readings) i;
-      cells = put-back (cellsAfter p c) (p .cells) i;
-    })
+      settings = put-back (q .settings) (p .settings) i;
+      meters = put-back (q .meters) (p .meters) i;
+      readings = put-back (q .readings) (p .readings) i;
+      cells = put-back (q .cells) (p .cells) i;
+    }
 
 min-self : (n : ℕ) → min n n ≡ n
 min-self n = omega arith
@@ -67,13 +66,13 @@ lengths-whole n =
     }
 
 whole-step : (n : Lengths) (p : Parts) (l : Ledger) (c : Call) → Agrees n p l → BodyOfBytes c →
-    (callAnswer p c ≡ ledgerAnswer l n c) × Agrees n (callLeaves p c) (ledgerAfter l n c)
+    (callAnswer p c ≡ ledgerAnswer l n c) × Agrees n (leaves p c) (ledgerAfter l n c)
+unfolding partsAfter
 whole-step n p l c a b =
-    let e = a .lengths in
     let s = item-step n p l (record { lent = n; call = c }) a b in
-    let whole : cut n p ≡ p = rw (← e) (cut-whole p) in
-    let left : partsAfter p (record { lent = n; call = c }) ≡ callLeaves p c = rw (← e) (after-whole p c) in
-    (rw (whole, lengths-whole n) at (s .0), rw (left, lengths-whole n) at (s .1))
+    let uncut : cut n p ≡ p = rw (← a .lengths) (cut-whole p) in
+    let back : restored n p (leaves p c) ≡ leaves p c = rw (← a .lengths) (restored-whole p (leaves p c)) in
+    (rw (uncut, lengths-whole n) at (s .0), rw (uncut, back, lengths-whole n) at (s .1))
 
 -- ---- what a reception is given is made of bytes
 
@@ -119,38 +118,25 @@ none-short : (a : Opening) → anyShort a (record { settings = 0; meters = 0; re
 unfolding anyShort metersShort settingsShort settingsLength
 none-short a = rw (lt-ltb 0 (8 + 8 * (length (a .categoryBytes) / 8) + length (a .dayTypes)) (omega arith))
 
--- the verdict on the parts lent is the plain program's
-same-verdict : (m : Most) (p : Parts) (a : Opening) →
-    let b = sufficesFor m a in
-    openingVerdict (lent b (p .settings)) (lent b (p .meters)) (lent b (p .readings)) (lent b (p .cells)) a ≡ plainOpening m (lengthsOf p) a
-unfolding openingVerdict plainOpening
-same-verdict m p a =
-    cases (sufficesFor m a)
-    (λ t. rw t)
-    (λ f. rw (f, none-short a))
-
--- an accepted opening leaves what agrees with the ledger's start
-opened-parts : (p : Parts) (a : Opening) → openingVerdict (p .settings) (p .meters) (p .readings) (p .cells) a .number ≡ 0 → openingLeaves true p a ≡ openedParts p a
-unfolding openingLeaves openedParts
-opened-parts p a e =
-    let v = openingVerdict (p .settings) (p .meters) (p .readings) (p .cells) a in
-    rw (left-none v (p .settings) (openedSettings a (p .settings)) e, left-none v (p .meters) (openedMeters a (p .meters)) e, left-none v (p .readings) (openedReadings a (p .readings)) e, left-none v (p .cells) (openedCells a (p .cells)) e)
-
-accepted-agrees : (suffices : Bool) (p : Parts) (a : Opening) → openingVerdict (lent suffices (p .settings)) (lent suffices (p .meters)) (lent suffices (p .readings)) (lent suffices (p .cells)) a .number ≡ 0 → Agrees (lengthsOf p) (openingLeaves suffices p a) (start a)
+none-refused : (a : Opening) → openingVerdict [] [] [] [] a .number ≡ 0 → ⊥
 unfolding settingsLength
-accepted-agrees true p a passes = rw (opened-parts p a passes) (opened-agrees p a passes)
-accepted-agrees false p a passes =
-    let long = opening-accepted [] [] [] [] a passes .settings-long in
-    let none : 1 ≤ 0 = omega (arith, long) in
-    absurd (not-suc-le-zero none)
+none-refused a e = let long = opening-accepted [] [] [] [] a e .settings-long in let none : 1 ≤ 0 = omega (arith, long) in not-suc-le-zero none
 
--- a refused one leaves all parts
-refused-parts : (suffices : Bool) (p : Parts) (a : Opening) → (openingVerdict (lent suffices (p .settings)) (lent suffices (p .meters)) (lent suffices (p .readings)) (lent suffices (p .cells)) a .number ≡ 0 → ⊥) → openingLeaves suffices p a ≡ p
-unfolding openingLeaves
-refused-parts true p a fails =
-    let v = openingVerdict (p .settings) (p .meters) (p .readings) (p .cells) a in
-    rw (left-some v (p .settings) (openedSettings a (p .settings)) fails, left-some v (p .meters) (openedMeters a (p .meters)) fails, left-some v (p .readings) (openedReadings a (p .readings)) fails, left-some v (p .cells) (openedCells a (p .cells)) fails)
-refused-parts false p a fails = refl
+-- the verdict on the parts lent is the plain program's
+same-verdict : (capacity : Capacity) (p : Parts) (a : Opening) → openingVerdictOn (sufficesFor capacity a) p a ≡ plainOpening capacity (lengthsOf p) a
+unfolding openingVerdict plainOpening
+same-verdict capacity p a = cases (sufficesFor capacity a) (λ t. rw t) (λ f. rw (f, none-short a))
+
+-- an opening leaves the parts by that verdict
+left-by-verdict : (suffices : Bool) (p : Parts) (a : Opening) → cond suffices (afterOpening p a) p ≡ left (openingVerdictOn suffices p a) p (openedParts p a)
+unfolding afterOpening
+left-by-verdict true p a = refl
+left-by-verdict false p a = sym (left-some (openingVerdictOn false p a) p (openedParts p a) (none-refused a))
+
+-- an accepted one leaves what agrees with the ledger's start
+accepted-agrees : (suffices : Bool) (p : Parts) (a : Opening) → openingVerdictOn suffices p a .number ≡ 0 → Agrees (lengthsOf p) (openedParts p a) (start a)
+accepted-agrees true p a passes = opened-agrees p a passes
+accepted-agrees false p a passes = absurd (none-refused a passes)
 
 -- ---- every list of commands
 
@@ -161,50 +147,44 @@ record Alike (n : Lengths) (s : State) (x : Plain) : Type 0 where
   collected : x ≡ plainOf s (x .ledger)
   stored : Agrees n (s .parts) (x .ledger)
 
-module _ (m : Most) (n : Lengths) (s : State) (l : Ledger) (stored : Agrees n (s .parts) l) (b : List ℕ) where
+module _ (capacity : Capacity) (n : Lengths) (s : State) (l : Ledger) (stored : Agrees n (s .parts) l) (b : List ℕ) where
   -- the command prints alike and leaves what is alike
   abbrev Step : Type 0
-  Step = (lineFor m s b ≡ plainLine m n (plainOf s l) b) × Alike n (stateAfter m s b) (plainAfter m n (plainOf s l) b)
+  Step = (lineFor capacity s b ≡ plainLine capacity n (plainOf s l) b) × Alike n (stateAfter capacity s b) (plainAfter capacity n (plainOf s l) b)
 
-  stepped : (s′ : State) (l′ : Ledger) → s′ ≡ stateAfter m s b → plainAfter m n (plainOf s l) b ≡ plainOf s′ l′ → Agrees n (s′ .parts) l′ → lineFor m s b ≡ plainLine m n (plainOf s l) b → Step
+  stepped : (s′ : State) (l′ : Ledger) → s′ ≡ stateAfter capacity s b → plainAfter capacity n (plainOf s l) b ≡ plainOf s′ l′ → Agrees n (s′ .parts) l′ → lineFor capacity s b ≡ plainLine capacity n (plainOf s l) b → Step
   stepped s′ l′ p q a line = (line, rw (← p, q) (record { collected = refl; stored = a }))
 
   category-step : code b ≡ 17 → Step
   unfolding lineFor plainLine plainAfter
-  category-step e = stepped _ l (collects-category m s b _ e refl) (rw e) stored (rw e)
+  category-step e = stepped _ l (collects-category capacity s b _ e refl) (rw e) stored (rw e)
 
   day-type-step : code b ≡ 18 → Step
   unfolding lineFor plainLine plainAfter
-  day-type-step e = stepped _ l (collects-day-type m s b _ e refl) (rw e) stored (rw e)
+  day-type-step e = stepped _ l (collects-day-type capacity s b _ e refl) (rw e) stored (rw e)
 
   abbrev asked : Opening
   asked = openingOf b (s .categoryBytes) (s .dayTypes)
 
-  abbrev suffices : Bool
-  suffices = sufficesFor m asked
+  verdict-is : openingVerdictOn (sufficesFor capacity asked) (s .parts) asked ≡ plainOpening capacity n asked
+  verdict-is = rw (← stored .lengths) (same-verdict capacity (s .parts) asked)
 
-  verdict-is : openingVerdict (lent suffices (s .parts .settings)) (lent suffices (s .parts .meters)) (lent suffices (s .parts .readings)) (lent suffices (s .parts .cells)) asked ≡ plainOpening m n asked
-  verdict-is = rw (← stored .lengths) (same-verdict m (s .parts) asked)
-
-  opening-leaves : Agrees n (openingLeaves suffices (s .parts) asked) (left (plainOpening m n asked) l (start asked))
+  opening-leaves : Agrees n (openingLeaves capacity (s .parts) asked) (left (plainOpening capacity n asked) l (start asked))
+  unfolding openingLeaves
   opening-leaves =
-      cases (eqb (plainOpening m n asked .number) 0)
-      (λ t.
-      let passes = eqb-true _ _ t in
-      rw (left-none (plainOpening m n asked) l (start asked) passes, ← stored .lengths) (accepted-agrees suffices (s .parts) asked (rw verdict-is passes)))
-      (λ f.
-      let fails = eqb-false _ _ f in
-      rw (left-some (plainOpening m n asked) l (start asked) fails, refused-parts suffices (s .parts) asked (rw verdict-is fails)) stored)
+      let suffices = sufficesFor capacity asked in
+      rw (left-by-verdict suffices (s .parts) asked, ← verdict-is)
+      (left-agrees _ stored (λ passes. rw (← stored .lengths) (accepted-agrees suffices (s .parts) asked passes)))
 
   opening-step : code b ≡ 16 → Step
   unfolding lineFor plainLine plainAfter openingAnswer
-  opening-step e = stepped _ _ (uses-up m s b _ e refl) (rw e) opening-leaves (rw e (ap (λ (v : Verdict). answerLine 16 (answer v accepted)) verdict-is))
+  opening-step e = stepped _ _ (uses-up capacity s b _ e refl) (rw e) opening-leaves (rw e (ap (λ (v : Verdict). answerLine 16 (answer v accepted)) verdict-is))
 
   call-step : (code b ≡ 16 → ⊥) → (code b ≡ 17 → ⊥) → (code b ≡ 18 → ⊥) → AreBytes b → Step
   unfolding lineFor plainLine plainAfter
   call-step x y z h =
       let done = whole-step n (s .parts) l (callOf b) stored (call-bytes b h) in
-      stepped _ (ledgerAfter l n (callOf b)) (asks m s b _ x y z refl) (simp (ne-eqb _ _ x, ne-eqb _ _ y, ne-eqb _ _ z)) (done .1)
+      stepped _ (ledgerAfter l n (callOf b)) (asks capacity s b _ x y z refl) (simp (ne-eqb _ _ x, ne-eqb _ _ y, ne-eqb _ _ z)) (done .1)
       (simp (ne-eqb _ _ x, ne-eqb _ _ y, ne-eqb _ _ z) (ap (answerLine (code b)) (done .0)))
 
   step : AreBytes b → Step
@@ -219,19 +199,20 @@ module _ (m : Most) (n : Lengths) (s : State) (l : Ledger) (stored : Agrees n (s
       (λ t. opening-step (eqb-true _ _ t))
       (λ k. call-step (eqb-false _ _ k) (eqb-false _ _ f) (eqb-false _ _ g) h)))
 
-command-step : (m : Most) (n : Lengths) (s : State) (x : Plain) (b : List ℕ) → Alike n s x → AreBytes b → (lineFor m s b ≡ plainLine m n x b) × Alike n (stateAfter m s b) (plainAfter m n x b)
-command-step m n s x b a h =
-    let done = step m n s (x .ledger) (a .stored) b h in
+command-step : (capacity : Capacity) (n : Lengths) (s : State) (x : Plain) (b : List ℕ) → Alike n s x → AreBytes b → (lineFor capacity s b ≡ plainLine capacity n x b) × Alike n (stateAfter capacity s b) (plainAfter capacity n x b)
+command-step capacity n s x b a h =
+    let done = step capacity n s (x .ledger) (a .stored) b h in
     rw (← a .collected) at done
 
 -- Demand 3, of the program
 pub conversation : Conversation
-unfolding openingAnswer
-conversation m s first commands e ok every =
+unfolding openingAnswer openingLeaves
+conversation capacity s first commands e ok every =
     let a = openingOf first (s .categoryBytes) (s .dayTypes) in
     let n = lengthsOf (s .parts) in
-    let passes = accepted-none _ (sym ok) in
-    let begun : record { categoryBytes = []; dayTypes = []; parts = openingLeaves (sufficesFor m a) (s .parts) a } ≡ stateAfter m s first = uses-up m s first _ e refl in
-    rw (← begun)
-    (simulation (lineFor m) (stateAfter m) (plainLine m n) (plainAfter m n) (Alike n) AreBytes (command-step m n) commands every _ _
-    (record { collected = refl; stored = accepted-agrees (sufficesFor m a) (s .parts) a passes }))
+    let v = openingVerdictOn (sufficesFor capacity a) (s .parts) a in
+    let passes = accepted-none v (sym ok) in
+    let left = left-by-verdict (sufficesFor capacity a) (s .parts) a ∙ left-none v (s .parts) (openedParts (s .parts) a) passes in
+    rw (← uses-up capacity s first _ e (sym left))
+    (simulation (lineFor capacity) (stateAfter capacity) (plainLine capacity n) (plainAfter capacity n) (Alike n) AreBytes (command-step capacity n) commands every _ _
+    (record { collected = refl; stored = accepted-agrees (sufficesFor capacity a) (s .parts) a passes }))

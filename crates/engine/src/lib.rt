@@ -15,3 +15,4 @@ pub use store::outcome::Outcome;
 pub use store::outcome::RunOutcome;
 pub use store::outcome::Totals;
 pub use store::outcome::TotalsOutcome;
+pub use store::settings::OpeningTerms;

@@ -1,1 +1,2 @@
+-- Laws that the proofs share.
 pub mod Laws

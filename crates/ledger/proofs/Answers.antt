@@ -55,7 +55,7 @@ module _ (duration periods w : ℕ) (run run′ : ℕ → Bool) (cell cell′ : 
   over : (n : ℕ) (f f′ : ℕ → ℕ) → ((x : ℕ) → x ≤ d → run x ≡ true → f x ≡ f′ x) → overRunDates run n f d ≡ overRunDates run′ n f′ d
   over n f f′ h = over-cong run run′ n f f′ d same h
 
-  pub totals-cong : run d ≡ true → totalsOn duration periods w run cell d ≡ totalsOn duration periods w run′ cell′ d
+  totals-cong : run d ≡ true → totalsOn duration periods w run cell d ≡ totalsOn duration periods w run′ cell′ d
   unfolding totalsOn
   totals-cong r =
       let days : overRunDates run 365 (λ _. 1) d ≡ overRunDates run′ 365 (λ _. 1) d = over 365 (λ _. 1) (λ _. 1) (λ x h q. refl) in

@@ -1,19 +1,25 @@
--- What tests and chains of checks tell.
-use Prim.Native.Nat.{ℕ, suc}
+-- What a passed check tells: the tests in front of a 0 did not hold, found one after the other.
+use Prim.Native.Nat.{ℕ, suc, _%_, _<_}
 use mathlib.Core.Path.{_≡_, refl}
 use mathlib.Core.Bool.{Bool, true, false, not, _||_, cond, true≢false}
+use mathlib.Core.List.{List}
 use native.Mathlib.Omega.{arith}
-use Rattle.ledger.specs.Checks.{Verdict, verdict}
+use lib.Dec.{eqb, leb}
+use lib.ListN.{length}
+use borrow.Table.Steps.{cases}
+use borrow.Author.Tests.{eqb-true, eqb-false, leb-false, not-false}
+use Rattle.metering.specs.Mpan.{mpanValid}
+use Rattle.metering.specs.Range.{between}
+use Rattle.metering.specs.Calendar.{periodEnding}
+use Rattle.ledger.specs.Method.{Category}
+use Rattle.ledger.specs.Checks.{Verdict, verdict, firstNumber, Registration, ReceptionCall, callNumber, notAfterLast, knownNumber, endMinute, quality, wattHoursAt, contentNumber, recordNumberIf, headerNumber}
 
 pub neither : (a b : Bool) → (a || b) ≡ false → (a ≡ false) × (b ≡ false)
 neither true b e = absurd (true≢false e)
 neither false b e = (refl, e)
 
-pub not-false : (b : Bool) → not b ≡ false → b ≡ true
-not-false true e = refl
-not-false false e = absurd (true≢false e)
+-- ---- one test, and two pieces
 
--- a check that lets a call pass
 pub check-passed : (b : Bool) (n rest : ℕ) → cond b (suc n) rest ≡ 0 → (b ≡ false) × (rest ≡ 0)
 check-passed true n rest e = absurd (omega arith)
 check-passed false n rest e = (refl, e)
@@ -21,3 +27,74 @@ check-passed false n rest e = (refl, e)
 pub verdict-passed : (b : Bool) (n : ℕ) (rest : Verdict) → (cond b (verdict (suc n)) rest) .number ≡ 0 → (b ≡ false) × (rest .number ≡ 0)
 verdict-passed true n rest e = absurd (omega arith)
 verdict-passed false n rest e = (refl, e)
+
+pub both-passed : (a b : ℕ) → firstNumber a b ≡ 0 → (a ≡ 0) × (b ≡ 0)
+unfolding firstNumber
+both-passed a b e = cases (eqb a 0) (λ q. (eqb-true a 0 q, rw q at e)) (λ q. absurd (eqb-false a 0 q (rw q at e)))
+
+-- ---- the pieces
+
+pub record CallPassed (short : Bool) (dates mpan date : ℕ) : Type 0 where
+  pub long : short ≡ false
+  pub dated : date < dates
+  pub valid : mpanValid mpan ≡ true
+
+pub call-passed : (short : Bool) (dates mpan date : ℕ) → callNumber short dates mpan date ≡ 0 → CallPassed short dates mpan date
+unfolding callNumber
+call-passed short dates mpan date e =
+    let p1 = check-passed short 0 _ e in
+    let p9 = check-passed (leb dates date) 8 _ (p1 .1) in
+    let p6 = check-passed (not (mpanValid mpan)) 5 0 (p9 .1) in
+    record { long = p1 .0; dated = leb-false dates date (p9 .0); valid = not-false (mpanValid mpan) (p6 .0) }
+
+-- a known meter has room for one more registration
+pub known-passed : (start : ℕ) (heldFrom : Bool) (registrations : List Registration) → knownNumber start heldFrom registrations ≡ 0 → length registrations < 8
+unfolding knownNumber
+known-passed start heldFrom registrations e =
+    let p10 = check-passed (notAfterLast start false registrations) 9 _ e in
+    let p11 = check-passed heldFrom 10 _ (p10 .1) in
+    leb-false 8 (length registrations) (check-passed (leb 8 (length registrations)) 11 0 (p11 .1) .0)
+
+pub record HeaderPassed (duration categories : ℕ) (category : ℕ → Category) (a : ReceptionCall) (r : Registration) : Type 0 where
+  pub category-is : r .category < categories
+  pub sender-is : a .sender ≡ r .sender
+  pub quantity-is : a .quantity ≡ category (r .category) .quantity
+  pub duration-is : a .duration ≡ duration
+  pub whole : length (a .body) % 7 ≡ 0
+
+pub header-passed : (duration categories : ℕ) (category : ℕ → Category) (a : ReceptionCall) (r : Registration) →
+    headerNumber duration categories category a r ≡ 0 → HeaderPassed duration categories category a r
+unfolding headerNumber
+header-passed duration categories category a r e =
+    let p2 = check-passed (leb categories (r .category)) 1 _ e in
+    let p1001 = check-passed (not (eqb (a .sender) (r .sender))) 1000 _ (p2 .1) in
+    let p1002 = check-passed (not (eqb (a .quantity) (category (r .category) .quantity))) 1001 _ (p1001 .1) in
+    let p1004 = check-passed (not (eqb (a .duration) duration)) 1003 _ (p1002 .1) in
+    let p13 = check-passed (not (eqb (length (a .body) % 7) 0)) 12 0 (p1004 .1) in
+    record {
+      category-is = leb-false categories (r .category) (p2 .0);
+      sender-is = eqb-true (a .sender) (r .sender) (not-false _ (p1001 .0));
+      quantity-is = eqb-true (a .quantity) (category (r .category) .quantity) (not-false _ (p1002 .0));
+      duration-is = eqb-true (a .duration) duration (not-false _ (p1004 .0));
+      whole = eqb-true (length (a .body) % 7) 0 (not-false _ (p13 .0));
+    }
+
+pub record RecordPassed (again : Bool) (duration status limit : ℕ) (body : List ℕ) (i : ℕ) : Type 0 where
+  pub known : between 1 14 (quality body i) ≡ true
+  pub closes : periodEnding duration (endMinute body i) ≡ 0 → ⊥
+  pub once : again ≡ false
+  pub content : contentNumber status limit (quality body i) (wattHoursAt body i) ≡ 0
+
+pub record-passed : (again : Bool) (duration status limit : ℕ) (body : List ℕ) (i : ℕ) →
+    recordNumberIf again duration status limit body i ≡ 0 → RecordPassed again duration status limit body i
+unfolding recordNumberIf
+record-passed again duration status limit body i e =
+    let p13 = check-passed (not (between 1 14 (quality body i))) 12 _ e in
+    let p1005 = check-passed (eqb (periodEnding duration (endMinute body i)) 0) 1004 _ (p13 .1) in
+    let p1006 = check-passed again 1005 _ (p1005 .1) in
+    record {
+      known = not-false (between 1 14 (quality body i)) (p13 .0);
+      closes = eqb-false (periodEnding duration (endMinute body i)) 0 (p1005 .0);
+      once = p1006 .0;
+      content = p1006 .1;
+    }

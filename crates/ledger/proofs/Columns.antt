@@ -17,7 +17,7 @@ dayIf true f = ran f
 dayIf false f = notRun
 
 module _ (dayType : ℕ → ℕ) (day : ℕ → Day) (t d : ℕ) where
-  pub latest-suc : latest dayType day t (suc d) ≡ afterDate d (day d) (eqb (dayType d) t) (latest dayType day t d)
+  latest-suc : latest dayType day t (suc d) ≡ afterDate d (day d) (eqb (dayType d) t) (latest dayType day t d)
   unfolding latest
   latest-suc = refl
 

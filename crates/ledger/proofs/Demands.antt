@@ -10,19 +10,19 @@ use native.Mathlib.Nat.{add-zero, zero-add, add-suc, suc-add, mul-le-mul-right}
 use lib.Dec.{eqb, leb, ltb}
 use lib.ListN.{length}
 use borrow.Table.Steps.{cases}
-use borrow.Author.Tests.{eq-eqb, ne-eqb, eqb-true, eqb-false, leb-false, lt-leb, le-ltb, ltb-false}
+use borrow.Author.Tests.{eq-eqb, ne-eqb, eqb-true, eqb-false, lt-leb, le-ltb, ltb-false, not-false}
 use Rattle.metering.specs.Mpan.{mpanValid}
 use Rattle.metering.specs.Range.{between}
 use Rattle.metering.specs.Calendar.{durationKnown, periodEnding}
 use Rattle.metering.specs.Laws.{between-true, duration-pos, periodsPerDay-times, periodEnding-at, periodEnding-is, periodEnding-le}
 use Rattle.ledger.specs.Method.{Category, Picture, freshIn, Fresh, absent, own, pooled, Cell, Flag, A, D, E, N, blank, carried, cellFrom, Day, notRun, ran, afterDate, latest, cellOf, cellOn}
-use Rattle.ledger.specs.Checks.{Registration, ReceptionCall, verdict, firstFailed, anyBelow, endMinute, quality, wattHoursAt, recordNumber, bodyCheck, inForceCheck, receptionCheck, runCheck, readCheck, totalsInRange, cellInRange}
+use Rattle.ledger.specs.Checks.{Registration, ReceptionCall, verdict, firstFailed, orElse, callNumber, anyBelow, endMinute, quality, wattHoursAt, contentNumber, recordNumberIf, recordNumber, headerNumber, bodyCheck, inForceCheck, receptionCheck, runCheck, readCheck, totalsInRange, cellInRange}
 use Rattle.ledger.specs.Ledger.{Opening, categories, dates, periods, category, dayType, Ledger, Answer, refused, moved, totalsAre, cellIs, answer, Lengths, metersShort, cellsShort, anyShort, meterWith, currentOf, at, cellBy, cellAt, dayOf, isPicture, isRun, ledgerReceptionCheck, ledgerRunCheck, ledgerTotalsCheck, ledgerCellCheck, pictureOf, afterRun, movedBetween, totalsAt, ledgerAnswer}
 use Rattle.ledger.specs.Demands.{GoodRecord, MayReceive, ReceptionExact, RunIsMethod, NeverNotRun, SecondRunMovesNothing, SamePicturesSameCells, CopiesHaveOrigins}
 use Rattle.ledger.proofs.Lists.{below-suc, sumBelow-none}
 use Rattle.ledger.proofs.Entries.{moved-same}
-use Rattle.ledger.proofs.Verdicts.{accepted-none}
-use Rattle.ledger.proofs.Choices.{check-passed, verdict-passed, not-false}
+use Rattle.ledger.proofs.Verdicts.{accepted-none, passed-else}
+use Rattle.ledger.proofs.Choices.{check-passed, call-passed, header-passed, record-passed}
 use Rattle.ledger.proofs.Receive.{first-passed}
 
 -- ---- runs and reads
@@ -212,25 +212,22 @@ all-passed f (suc n) i h =
 
 module _ (o : Opening) (r : Registration) (body : List ℕ) (k : ℕ) (known : durationKnown (o .duration) ≡ true) where
   good-record : recordNumber (o .duration) (r .status) (r .limit) body k ≡ 0 → GoodRecord o r body k
-  unfolding recordNumber
+  unfolding recordNumber contentNumber
   good-record e =
-      let p13 = check-passed (not (between 1 14 (quality body k))) 12 _ e in
-      let p1005 = check-passed (eqb (periodEnding (o .duration) (endMinute body k)) 0) 1004 _ (p13 .1) in
-      let p1006 = check-passed (anyBelow k (λ i. eqb (endMinute body i) (endMinute body k))) 1005 _ (p1005 .1) in
-      let p1008 = check-passed (eqb (r .status) 2 && ltb 9 (quality body k)) 1007 _ (p1006 .1) in
+      let passed = record-passed _ (o .duration) (r .status) (r .limit) body k e in
+      let p1008 = check-passed (eqb (r .status) 2 && ltb 9 (quality body k)) 1007 _ (passed .content) in
       let p1009 = check-passed (eqb (r .status) 3) 1008 _ (p1008 .1) in
       let p1011 = check-passed (between 10 13 (quality body k) && not (eqb (wattHoursAt body k) 0)) 1010 _ (p1009 .1) in
       let p1012 = check-passed (ltb (r .limit) (wattHoursAt body k)) 1011 0 (p1011 .1) in
-      let some-period = eqb-false (periodEnding (o .duration) (endMinute body k)) 0 (p1005 .0) in
       record {
-        known-quality = between-true 1 14 (quality body k) .0 (not-false (between 1 14 (quality body k)) (p13 .0));
+        known-quality = between-true 1 14 (quality body k) .0 (passed .known);
         ends-a-period = (
           periodEnding (o .duration) (endMinute body k),
-          pos (periodEnding (o .duration) (endMinute body k)) some-period,
+          pos (periodEnding (o .duration) (endMinute body k)) (passed .closes),
           periodEnding-le (o .duration) (endMinute body k) known,
-          periodEnding-is (o .duration) (endMinute body k) (periodEnding (o .duration) (endMinute body k)) (duration-pos (o .duration) known) refl some-period .0,
+          periodEnding-is (o .duration) (endMinute body k) (periodEnding (o .duration) (endMinute body k)) (duration-pos (o .duration) known) refl (passed .closes) .0,
         );
-        no-duplicate = λ i h. eqb-false (endMinute body i) (endMinute body k) (any-false k (λ x. eqb (endMinute body x) (endMinute body k)) (p1006 .0) i h);
+        no-duplicate = λ i h. eqb-false (endMinute body i) (endMinute body k) (any-false k (λ x. eqb (endMinute body x) (endMinute body k)) (passed .once) i h);
         de-energised = λ s. ltb-false 9 (quality body k) (rw (eq-eqb (r .status) 2 s) at (p1008 .0));
         connected = eqb-false (r .status) 3 (p1009 .0);
         zero-energy = λ low high. eqb-true (wattHoursAt body k) 0 (not-false _ (rw (between-true 10 13 (quality body k) .1 (low, high)) at (p1011 .0)));
@@ -242,7 +239,7 @@ module _ (o : Opening) (r : Registration) (body : List ℕ) (k : ℕ) (known : d
       pos (suc x) n = omega arith
 
   record-good : GoodRecord o r body k → recordNumber (o .duration) (r .status) (r .limit) body k ≡ 0
-  unfolding recordNumber
+  unfolding recordNumber recordNumberIf contentNumber
   record-good g =
       let j = g .ends-a-period .0 in
       let d = duration-pos (o .duration) known in
@@ -276,29 +273,26 @@ module _ (l : Ledger) (n : Lengths) (a : ReceptionCall) (known : durationKnown (
   unfolding inForceCheck bodyCheck
   may-receive long date number none e c = absurd (let z : _≡_ {A = ℕ} 7 0 = c in omega arith)
   may-receive long date number (some r) e c =
-      let p2 = verdict-passed (leb (categories (l .opening)) (r .category)) 1 _ c in
-      let p1001 = verdict-passed (not (eqb (a .sender) (r .sender))) 1000 _ (p2 .1) in
-      let p1002 = verdict-passed (not (eqb (a .quantity) (category (l .opening) (r .category) .quantity))) 1001 _ (p1001 .1) in
-      let p1004 = verdict-passed (not (eqb (a .duration) (l .opening .duration))) 1003 _ (p1002 .1) in
-      let p13 = verdict-passed (not (eqb (length (a .body) % 7) 0)) 12 _ (p1004 .1) in
+      let p = passed-else _ _ c in
+      let header = header-passed (l .opening .duration) (categories (l .opening)) (category (l .opening)) a r (p .0) in
       record {
         long-enough = long;
         a-date = date;
         a-number = number;
         registration = r;
         in-force = e;
-        a-category = leb-false (categories (l .opening)) (r .category) (p2 .0);
-        same-sender = eqb-true (a .sender) (r .sender) (not-false _ (p1001 .0));
-        same-quantity = eqb-true (a .quantity) (category (l .opening) (r .category) .quantity) (not-false _ (p1002 .0));
-        same-duration = eqb-true (a .duration) (l .opening .duration) (not-false _ (p1004 .0));
-        whole-records = eqb-true (length (a .body) % 7) 0 (not-false _ (p13 .0));
+        a-category = header .category-is;
+        same-sender = header .sender-is;
+        same-quantity = header .quantity-is;
+        same-duration = header .duration-is;
+        whole-records = header .whole;
         good-records = λ k h.
             good-record (l .opening) r (a .body) k known
-            (rw (zero-add k) at (first-passed (recordNumber (l .opening .duration) (r .status) (r .limit) (a .body)) (length (a .body) / 7) 0 (p13 .1) k h));
+            (rw (zero-add k) at (first-passed (recordNumber (l .opening .duration) (r .status) (r .limit) (a .body)) (length (a .body) / 7) 0 (p .1) k h));
       }
 
   accepts : MayReceive l n a → ledgerReceptionCheck l n a ≡ verdict 0
-  unfolding ledgerReceptionCheck receptionCheck inForceCheck bodyCheck
+  unfolding ledgerReceptionCheck receptionCheck orElse callNumber inForceCheck bodyCheck headerNumber
   accepts m =
       let r = m .registration in
       rw (
@@ -318,11 +312,9 @@ module _ (l : Ledger) (n : Lengths) (a : ReceptionCall) (known : durationKnown (
   accepted-means : ledgerReceptionCheck l n a .number ≡ 0 → MayReceive l n a
   unfolding ledgerReceptionCheck receptionCheck
   accepted-means e =
-      let p1 = verdict-passed (metersShort (l .opening) n) 0 _ e in
-      let p9 = verdict-passed (leb (dates (l .opening)) (a .date)) 8 _ (p1 .1) in
-      let p6 = verdict-passed (not (mpanValid (a .mpan))) 5 _ (p9 .1) in
-      may-receive (p1 .0) (leb-false (dates (l .opening)) (a .date) (p9 .0)) (not-false (mpanValid (a .mpan)) (p6 .0))
-      (currentOf (a .date) (meterWith (a .mpan) (l .known))) refl (p6 .1)
+      let p = passed-else _ _ e in
+      let passed = call-passed (metersShort (l .opening) n) (dates (l .opening)) (a .mpan) (a .date) (p .0) in
+      may-receive (passed .long) (passed .dated) (passed .valid) (currentOf (a .date) (meterWith (a .mpan) (l .known))) refl (p .1)
 
 pub reception-exact : ReceptionExact
 unfolding ledgerAnswer answer

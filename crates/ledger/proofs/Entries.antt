@@ -1,5 +1,5 @@
--- A cell's entry: read what was put, tell two apart, carry forward.
-use Prim.Native.Nat.{ℕ, _+_, _-_, _/_, _%_, _≤_, _<_}
+-- A cell's entry: read what was put, tell two apart, carry forward. The encoding shows in the laws of the two leaves alone; all else goes through them.
+use Prim.Native.Nat.{ℕ, _/_, _%_, _≤_, _<_}
 use mathlib.Core.Path.{_≡_, refl, sym, ap, _∙_}
 use mathlib.Core.Logic.{_≢_}
 use mathlib.Core.Bool.{true, false, cond}
@@ -7,10 +7,12 @@ use native.Mathlib.Omega.{arith}
 use lib.Dec.{eqb}
 use borrow.Table.Steps.{cases}
 use borrow.Author.Tests.{eq-eqb, eqb-true, eqb-false}
-use Rattle.ledger.specs.Method.{Flag, A, D, E, N, flagNumber, Cell, blank, carried, sameCell, movedCell, Fresh, absent, own, pooled, cellFrom}
+use Rattle.ledger.specs.Method.{Flag, A, D, E, N, flagNumber, Cell, blank, ownCell, pooledCell, isOwnCell, carried, sameCell, movedCell, Fresh, absent, own, pooled, cellFrom}
 use Rattle.ledger.specs.Store.{entryOf, flagOf, flagNumberOf, cellOfEntry}
 use Rattle.ledger.specs.Calls.{carriedEntry, isOwn, rowEntry}
 use Rattle.ledger.specs.Ready.{both}
+
+-- ---- the two leaves: read and put
 
 -- what an entry has room for
 pub record Small (a : Cell) : Type 0 where
@@ -57,11 +59,31 @@ cell-entry a s = λ i.
       origin = origin-entry a s i;
     }
 
+-- put what was read, of an entry that a put gave
+pub entry-cell : (a : Cell) → Small a → entryOf (cellOfEntry (entryOf a)) ≡ entryOf a
+entry-cell a s = ap entryOf (cell-entry a s)
+
+-- every entry of 64 bits reads as a cell that it has room for, and that cell's entry has 64 bits
+pub read-small : (e : ℕ) → e < 18446744073709551616 → Small (cellOfEntry e)
+unfolding cellOfEntry
+read-small e h = record { value = omega arith; count = omega arith; origin = omega arith }
+
+pub entry-bound : (a : Cell) → Small a → entryOf a < 18446744073709551616
+unfolding entryOf
+entry-bound a s = let f = flag-small (a .flag) in omega arith
+
+-- the same of a shape that a run makes, with a wider bound on its count: 64 categories of 1,024 slots
+pub shape-bound : (a : Cell) → a .value < 4294967296 → a .count ≤ 65536 → a .origin < 1024 → entryOf a < 18446744073709551616
+unfolding entryOf
+shape-bound a v n o = let f = flag-small (a .flag) in omega arith
+
 pub entry-some : (a : Cell) → entryOf a ≢ 0
 unfolding entryOf
 entry-some a e = let f = flag-small (a .flag) in omega arith
 
-pub entry-same : (a b : Cell) → Small a → Small b → entryOf a ≡ entryOf b → a ≡ b
+-- ---- telling two apart
+
+entry-same : (a b : Cell) → Small a → Small b → entryOf a ≡ entryOf b → a ≡ b
 entry-same a b s t e = sym (cell-entry a s) ∙ ap cellOfEntry e ∙ cell-entry b t
 
 sameCell-refl : (a : Cell) → sameCell a a ≡ true
@@ -69,17 +91,19 @@ unfolding sameCell
 sameCell-refl a =
     rw (eq-eqb (flagNumber (a .flag)) (flagNumber (a .flag)) refl, eq-eqb (a .value) (a .value) refl, eq-eqb (a .count) (a .count) refl, eq-eqb (a .origin) (a .origin) refl)
 
-same-entry : (a b : Cell) → sameCell a b ≡ true → entryOf a ≡ entryOf b
-unfolding sameCell entryOf
-same-entry a b h =
+same-equal : (a b : Cell) → sameCell a b ≡ true → a ≡ b
+unfolding sameCell
+same-equal a b h =
     let p = both _ _ h in
     let q = both _ _ (p .0) in
     let r = both _ _ (q .0) in
-    let f = eqb-true (flagNumber (a .flag)) (flagNumber (b .flag)) (r .0) in
-    let v = eqb-true (a .value) (b .value) (r .1) in
-    let n = eqb-true (a .count) (b .count) (q .1) in
-    let o = eqb-true (a .origin) (b .origin) (p .1) in
-    omega arith
+    λ i.
+    record {
+      flag = (sym (flag-back (a .flag)) ∙ ap flagOf (eqb-true (flagNumber (a .flag)) (flagNumber (b .flag)) (r .0)) ∙ flag-back (b .flag)) i;
+      value = eqb-true (a .value) (b .value) (r .1) i;
+      count = eqb-true (a .count) (b .count) (q .1) i;
+      origin = eqb-true (a .origin) (b .origin) (p .1) i;
+    }
 
 -- what tells two entries apart tells their cells apart
 pub moved-entry : (a b : Cell) → Small a → Small b → cond (eqb (entryOf a) (entryOf b)) 0 1 ≡ movedCell a b
@@ -87,12 +111,12 @@ unfolding movedCell
 moved-entry a b s t =
     cases (eqb (entryOf a) (entryOf b))
     (λ e. rw e (rw (entry-same a b s t (eqb-true _ _ e), sameCell-refl b)))
-    (λ e. rw e (cases (sameCell a b) (λ q. absurd (eqb-false _ _ e (same-entry a b q))) (λ q. rw q)))
+    (λ e. rw e (cases (sameCell a b) (λ q. absurd (eqb-false _ _ e (ap entryOf (same-equal a b q)))) (λ q. rw q)))
 
 pub unmoved : (a b : Cell) → Small a → Small b → movedCell a b ≡ 0 → a ≡ b
 unfolding movedCell
 unmoved a b s t h =
-    cases (sameCell a b) (λ q. entry-same a b s t (same-entry a b q)) (λ q. let z : _≡_ {A = ℕ} 1 0 = rw q at h in absurd (omega arith))
+    cases (sameCell a b) (λ q. same-equal a b q) (λ q. let z : _≡_ {A = ℕ} 1 0 = rw q at h in absurd (omega arith))
 
 pub moved-same : (a : Cell) → movedCell a a ≡ 0
 unfolding movedCell
@@ -114,25 +138,15 @@ carried-small a s =
       | N ↦ λ e. rw e blank-small
     ]) refl
 
-pub carried-carried : (a : Cell) → carried (carried a) ≡ carried a
+carried-carried : (a : Cell) → carried (carried a) ≡ carried a
 unfolding carried blank
 carried-carried a =
     (elim (a .flag) as (λ f. a .flag ≡ f → carried (carried a) ≡ carried a) [ A ↦ λ e. rw e | D ↦ λ e. rw e | E ↦ λ e. rw e | N ↦ λ e. rw e ]) refl
 
-shift : (f : Flag) (v n o : ℕ) → entryOf (record { flag = f; value = v; count = n; origin = o }) - flagNumber f + 3 ≡ entryOf (record { flag = E; value = v; count = n; origin = o })
-unfolding entryOf
-shift f v n o = omega arith
-
 -- an entry carried forward is the entry of the cell carried forward
 pub carry-entry : (a : Cell) → Small a → carriedEntry (entryOf a) ≡ entryOf (carried a)
-unfolding carriedEntry carried
-carry-entry a s =
-    (elim (a .flag) as (λ f. a .flag ≡ f → carriedEntry (entryOf a) ≡ entryOf (carried a)) [
-      | A ↦ λ e. rw (flag-entry a s, e) (shift A (a .value) (a .count) (a .origin))
-      | D ↦ λ e. rw (flag-entry a s, e) (shift D (a .value) (a .count) (a .origin))
-      | E ↦ λ e. rw (flag-entry a s, e) (shift E (a .value) (a .count) (a .origin))
-      | N ↦ λ e. rw (flag-entry a s, e)
-    ]) refl
+unfolding carriedEntry
+carry-entry a s = ap (λ x. entryOf (carried x)) (cell-entry a s)
 
 -- ---- own shapes
 
@@ -155,33 +169,32 @@ row-entry d absent b over e = e
 row-entry d (own v n) b over e = refl
 row-entry d (pooled v n) b over e = refl
 
-not-own : (a : Cell) → Small (carried a) → isOwn (entryOf (carried a)) ≡ false
-unfolding isOwn carried blank
-not-own a s =
-    (elim (a .flag) as (λ f. a .flag ≡ f → isOwn (entryOf (carried a)) ≡ false) [
-      | A ↦ λ e. rw (flag-entry (carried a) s, e)
-      | D ↦ λ e. rw (flag-entry (carried a) s, e)
-      | E ↦ λ e. rw (flag-entry (carried a) s, e)
-      | N ↦ λ e. rw (flag-entry (carried a) s, e)
-    ]) refl
+-- an entry is a date's own where its cell is
+own-entry : (a : Cell) → Small a → isOwn (entryOf a) ≡ isOwnCell a
+unfolding isOwn
+own-entry a s = ap isOwnCell (cell-entry a s)
+
+carried-not-own : (a : Cell) → isOwnCell (carried a) ≡ false
+unfolding isOwnCell carried blank
+carried-not-own a =
+    (elim (a .flag) as (λ f. a .flag ≡ f → isOwnCell (carried a) ≡ false) [ A ↦ λ e. rw e | D ↦ λ e. rw e | E ↦ λ e. rw e | N ↦ λ e. rw e ]) refl
 
 -- a later run date: its own shape stands, its other cells follow the new predecessor
 module _ (d : ℕ) (before after : Cell) (h : d < 65536) (s : Small before) (t : Small after) where
+  own-is : (f : Fresh) → SmallFresh f → isOwn (entryOf (cellFrom d f before)) ≡ isOwnCell (cellFrom d f before)
+  own-is f g = own-entry (cellFrom d f before) (cellFrom-small d f before h g s)
+
   pub follow-entry : (f : Fresh) → SmallFresh f →
       cond (isOwn (entryOf (cellFrom d f before))) (entryOf (cellFrom d f before)) (entryOf (carried after)) ≡ entryOf (cellFrom d f after)
-  unfolding cellFrom isOwn
-  follow-entry absent g = rw (not-own before (carried-small before s))
-  follow-entry (own v n) g = rw (flag-entry (cellFrom d (own v n) before) (cellFrom-small d (own v n) before h g s))
-  follow-entry (pooled v n) g = rw (flag-entry (cellFrom d (pooled v n) before) (cellFrom-small d (pooled v n) before h g s))
+  unfolding cellFrom isOwnCell
+  follow-entry absent g = rw (own-is absent g, carried-not-own before)
+  follow-entry (own v n) g = rw (own-is (own v n) g)
+  follow-entry (pooled v n) g = rw (own-is (pooled v n) g)
 
   pub over-entry : (f : Fresh) → SmallFresh f →
       cond (isOwn (entryOf (cellFrom d f before))) (carriedEntry (entryOf (cellFrom d f before))) (entryOf (carried after))
       ≡ entryOf (carried (cellFrom d f after))
-  unfolding cellFrom isOwn
-  over-entry absent g = rw (not-own before (carried-small before s)) (ap entryOf (sym (carried-carried after)))
-  over-entry (own v n) g =
-      let k = cellFrom-small d (own v n) before h g s in
-      rw (flag-entry (cellFrom d (own v n) before) k) (carry-entry (cellFrom d (own v n) before) k)
-  over-entry (pooled v n) g =
-      let k = cellFrom-small d (pooled v n) before h g s in
-      rw (flag-entry (cellFrom d (pooled v n) before) k) (carry-entry (cellFrom d (pooled v n) before) k)
+  unfolding cellFrom isOwnCell
+  over-entry absent g = rw (own-is absent g, carried-not-own before) (ap entryOf (sym (carried-carried after)))
+  over-entry (own v n) g = rw (own-is (own v n) g) (carry-entry (ownCell d v n) (cellFrom-small d (own v n) before h g s))
+  over-entry (pooled v n) g = rw (own-is (pooled v n) g) (carry-entry (pooledCell d v n) (cellFrom-small d (pooled v n) before h g s))

@@ -4,6 +4,7 @@ pub mod Verdicts
 pub mod Lists
 pub mod Entries
 pub mod Columns
+pub mod Walks
 pub mod Rows
 pub mod Relation
 pub mod Tallies
@@ -16,6 +17,7 @@ pub mod Receive
 pub mod Open
 pub mod Nets
 pub mod Answers
+pub mod Parts
 pub mod Agreement
 pub mod Demands
 pub mod NetDemands

@@ -22,7 +22,7 @@ use Rattle.ledger.specs.Engine.{Every}
 use Rattle.ledger.specs.Demands.{OnSide, SideExact, OwnGroupPair, signedTotal, NetTotIsSum, NetOfTotals, OwnGroupNetOfTotals, MarkExact, NothingNetsToZero, SidesExchanged}
 use Rattle.ledger.proofs.Choices.{verdict-passed, neither}
 use Rattle.ledger.proofs.Receive.{first-passed}
-use Rattle.ledger.proofs.Open.{passed-else}
+use Rattle.ledger.proofs.Verdicts.{passed-else}
 use Rattle.ledger.proofs.Demands.{any-false}
 use Rattle.ledger.proofs.Lists.{tabulate-at, getD-tabulate, tabulate-ext}
 use Rattle.ledger.proofs.Nets.{sumOver-append, sumOver-one, chosen-pass, anyOf-append, tot-minus, tot7-minus, period-swapped, tot-swapped, tot7-swapped, mark-swapped}
@@ -263,13 +263,13 @@ first-of P [] some all = absurd (some refl)
 first-of P (c ∷ cs) some all = (c, all .0)
 
 -- two records with one key are not both accepted
-module _ (o : Opening) (short : Bool) (ok : openingCheck (o .duration) (o .meters) (o .categoryBytes) (o .dayTypes) short .number ≡ 0) where
+module _ (o : Opening) (short : Bool) (ok : openingCheck o short .number ≡ 0) where
   no-key-twice : (i k : ℕ) → i < categories o → k < i → sameKey (o .categoryBytes) k i ≡ false
   unfolding openingCheck categoryNumber
   no-key-twice i k h l =
       let later = orElse (firstFailed (dayTypeNumber (o .dayTypes)) (dates o) 0) (verdict (cond short 1 0)) in
       let first = firstFailed (categoryNumber (o .categoryBytes)) (categories o) 0 in
-      let sizes = verdict-passed (not (sizesValid (o .duration) (o .meters) (o .categoryBytes) (o .dayTypes))) 2 (orElse first later) ok in
+      let sizes = verdict-passed (not (sizesValid o)) 2 (orElse first later) ok in
       let records = passed-else first later (sizes .1) .0 in
       let bad = not (categoryValid (recordAt (o .categoryBytes) i)) in
       let twice = anyBelow i (λ x. sameKey (o .categoryBytes) x i) in

@@ -1,70 +1,69 @@
 -- An accepted opening gives the relation.
 use Prim.Native.Nat.{ℕ, _+_, _*_, _/_, _%_, _≤_, _<_}
 use mathlib.Core.Path.{_≡_, refl, sym, ap, _∙_}
-use mathlib.Core.Bool.{Bool, true, false, not, _&&_, cond, and-eq-true-iff, true≢false}
+use mathlib.Core.Bool.{Bool, true, false, not, cond}
 use mathlib.Core.List.{List, [], _++_}
 use mathlib.Core.Option.{none}
 use native.Mathlib.Omega.{arith}
 use native.Mathlib.Nat.{add-assoc}
-use lib.Dec.{eqb, ltb}
+use lib.Dec.{ltb}
 use lib.ListN.{length, getD, drop, replicate, length-append, length-drop, length-replicate, getD-replicate, List·getD-append}
 use lib.Seq.{getD-append-add, getD-drop}
-use borrow.Table.Steps.{cases}
-use borrow.Author.Tests.{eqb-true, eq-eqb, ltb-false}
-use Rattle.metering.specs.Range.{between, metersInRange, categoriesInRange, datesInRange}
-use Rattle.metering.specs.Calendar.{durationKnown, periodsPerDay}
+use borrow.Author.Tests.{eqb-true, ltb-false, not-false}
+use Rattle.metering.specs.Range.{metersInRange, categoriesInRange, datesInRange}
 use Rattle.metering.specs.Laws.{between-true, duration-is}
 use Rattle.ledger.specs.Method.{categoryAt}
-use Rattle.ledger.specs.Checks.{Verdict, verdict, firstFailed, categoryNumber, dayTypeNumber, orElse, sizesValid, openingCheck}
-use Rattle.ledger.specs.Sizes.{settingsLength, metersLength, readingsLength, cellsLength}
-use Rattle.ledger.specs.Ledger.{Opening, categories, dates, periods, anyShort, metersShort, settingsShort}
-use Rattle.ledger.specs.Store.{word, wordBytes, durationOf, metersOf, categoriesOf, datesOf, categoryOf, dayTypeOf, mpanAt, registrationIndex, registrationAt, setIndex, isHeldAt}
+use Rattle.ledger.specs.Checks.{verdict, firstFailed, categoryNumber, dayTypeNumber, sizesValid, openingCheck}
+use Rattle.ledger.specs.Sizes.{headerLength, settingsLength, metersLength, readingsLength, cellsLength}
+use Rattle.ledger.specs.Opening.{Opening, categories, dates, periods}
+use Rattle.ledger.specs.Ledger.{anyShort, metersShort, settingsShort}
+use Rattle.ledger.specs.Store.{word, wordBytes, headerBytes, durationOf, metersOf, categoriesOf, datesOf, categoryOf, dayTypeOf, mpanAt, registrationIndex, registrationAt, setIndex, isHeldAt}
+use Rattle.ledger.specs.Ready.{both}
 use Rattle.ledger.specs.Calls.{openingVerdict, emptied, openedSettings, rowAt}
-use Rattle.ledger.proofs.Choices.{verdict-passed, not-false, neither}
+use Rattle.ledger.proofs.Choices.{verdict-passed, neither}
+use Rattle.ledger.proofs.Verdicts.{passed-else}
 use Rattle.ledger.proofs.Lists.{block-below}
 use Rattle.ledger.proofs.Relation.{Valid, SettingsAgree, FreeAt, MetersAgree, ReadingsAgree, CellsAgree}
 use Rattle.ledger.proofs.Receive.{set-below}
 
 -- ---- what an accepted opening tells
 
-pub passed-else : (a b : Verdict) → orElse a b .number ≡ 0 → (a .number ≡ 0) × (b .number ≡ 0)
-unfolding orElse
-passed-else a b e =
-    cases (eqb (a .number) 0)
-    (λ q. (eqb-true (a .number) 0 q, rw q at e))
-    (λ q. let z : a .number ≡ 0 = rw q at e in absurd (true≢false (sym (eq-eqb (a .number) 0 z) ∙ q)))
+-- sizes in range
+pub sizes-valid : (a : Opening) → sizesValid a ≡ true → Valid a
+unfolding sizesValid metersInRange categoriesInRange datesInRange
+sizes-valid a h =
+    let t = both _ _ h in
+    let c = both _ _ (t .0) in
+    let w = both _ _ (c .0) in
+    let d = both _ _ (w .0) in
+    record {
+      duration = duration-is (a .duration) (d .0);
+      meters = between-true 1 1024 (a .meters) .0 (d .1);
+      categories-are = between-true 1 64 (categories a) .0 (c .1);
+      dates-are = between-true 1 800 (dates a) .0 (t .1);
+      whole = let z = eqb-true (length (a .categoryBytes) % 8) 0 (w .1) in omega arith;
+    }
 
 pub record OpeningAccepted (settings meters readings cells : List ℕ) (a : Opening) : Type 0 where
+  pub sizes : sizesValid a ≡ true
   pub valid : Valid a
-  pub settings-long : settingsLength (length (a .categoryBytes) / 8) (length (a .dayTypes)) ≤ length settings
+  pub settings-long : settingsLength (categories a) (dates a) ≤ length settings
   pub meters-long : metersLength (a .meters) ≤ length meters
-  pub readings-long : readingsLength (a .meters) (length (a .dayTypes)) (periodsPerDay (a .duration)) ≤ length readings
-  pub cells-long : cellsLength (length (a .categoryBytes) / 8) (length (a .dayTypes)) (periodsPerDay (a .duration)) ≤ length cells
+  pub readings-long : readingsLength (a .meters) (dates a) (periods a) ≤ length readings
+  pub cells-long : cellsLength (categories a) (dates a) (periods a) ≤ length cells
 
 pub opening-accepted : (settings meters readings cells : List ℕ) (a : Opening) → openingVerdict settings meters readings cells a .number ≡ 0 → OpeningAccepted settings meters readings cells a
-unfolding openingVerdict openingCheck anyShort metersShort settingsShort sizesValid metersInRange categoriesInRange datesInRange
+unfolding openingVerdict openingCheck anyShort metersShort settingsShort
 opening-accepted settings meters readings cells a e =
-    let p3 = verdict-passed (not (durationKnown (a .duration) && between 1 1024 (a .meters) && eqb (length (a .categoryBytes) % 8) 0 && between 1 64 (length (a .categoryBytes) / 8) && between 1 800 (length (a .dayTypes)))) 2 _ e in
-    let p4 = passed-else (firstFailed (categoryNumber (a .categoryBytes)) (length (a .categoryBytes) / 8) 0) _ (p3 .1) in
-    let p5 = passed-else (firstFailed (dayTypeNumber (a .dayTypes)) (length (a .dayTypes)) 0) _ (p4 .1) in
-    let sizes = not-false _ (p3 .0) in
-    let t = and-eq-true-iff (durationKnown (a .duration) && between 1 1024 (a .meters) && eqb (length (a .categoryBytes) % 8) 0 && between 1 64 (length (a .categoryBytes) / 8)) (between 1 800 (length (a .dayTypes))) .0 sizes in
-    let c = and-eq-true-iff (durationKnown (a .duration) && between 1 1024 (a .meters) && eqb (length (a .categoryBytes) % 8) 0) (between 1 64 (length (a .categoryBytes) / 8)) .0 (t .0) in
-    let w = and-eq-true-iff (durationKnown (a .duration) && between 1 1024 (a .meters)) (eqb (length (a .categoryBytes) % 8) 0) .0 (c .0) in
-    let d = and-eq-true-iff (durationKnown (a .duration)) (between 1 1024 (a .meters)) .0 (w .0) in
-    let long = shorts _ (p5 .1) in
-    let s3 = neither _ (ltb (length cells) (cellsLength (length (a .categoryBytes) / 8) (length (a .dayTypes)) (periodsPerDay (a .duration)))) long in
-    let s2 = neither _ (ltb (length readings) (readingsLength (a .meters) (length (a .dayTypes)) (periodsPerDay (a .duration)))) (s3 .0) in
-    let s1 = neither (ltb (length settings) (settingsLength (length (a .categoryBytes) / 8) (length (a .dayTypes)))) (ltb (length meters) (metersLength (a .meters))) (s2 .0) in
+    let p3 = verdict-passed (not (sizesValid a)) 2 _ e in
+    let p4 = passed-else (firstFailed (categoryNumber (a .categoryBytes)) (categories a) 0) _ (p3 .1) in
+    let p5 = passed-else (firstFailed (dayTypeNumber (a .dayTypes)) (dates a) 0) _ (p4 .1) in
+    let s3 = neither _ (ltb (length cells) (cellsLength (categories a) (dates a) (periods a))) (shorts _ (p5 .1)) in
+    let s2 = neither _ (ltb (length readings) (readingsLength (a .meters) (dates a) (periods a))) (s3 .0) in
+    let s1 = neither (ltb (length settings) (settingsLength (categories a) (dates a))) (ltb (length meters) (metersLength (a .meters))) (s2 .0) in
     record {
-      valid =
-          record {
-            duration = duration-is (a .duration) (d .0);
-            meters = between-true 1 1024 (a .meters) .0 (d .1);
-            categories-are = between-true 1 64 (length (a .categoryBytes) / 8) .0 (c .1);
-            dates-are = between-true 1 800 (length (a .dayTypes)) .0 (t .1);
-            whole = let z = eqb-true (length (a .categoryBytes) % 8) 0 (w .1) in omega arith;
-          };
+      sizes = not-false _ (p3 .0);
+      valid = sizes-valid a (not-false _ (p3 .0));
       settings-long = ltb-false _ _ (s1 .0);
       meters-long = ltb-false _ _ (s1 .1);
       readings-long = ltb-false _ _ (s2 .1);
@@ -77,24 +76,24 @@ opening-accepted settings meters readings cells a e =
 
 -- ---- settings
 
-module _ (a : Opening) (settings : List ℕ) (whole : length (a .categoryBytes) ≡ 8 * (length (a .categoryBytes) / 8)) where
+module _ (a : Opening) (settings : List ℕ) (whole : length (a .categoryBytes) ≡ 8 * categories a) where
   rest : List ℕ
-  rest = drop (settingsLength (length (a .categoryBytes) / 8) (length (a .dayTypes))) settings
+  rest = drop (settingsLength (categories a) (dates a)) settings
 
   two : (n : ℕ) → 256 * (n / 256) + n % 256 ≡ n
   two n = omega arith
 
-  drop-is : drop 8 (openedSettings a settings) ≡ a .categoryBytes ++ a .dayTypes ++ rest
-  unfolding openedSettings wordBytes rest
+  drop-is : drop headerLength (openedSettings a settings) ≡ a .categoryBytes ++ a .dayTypes ++ rest
+  unfolding openedSettings headerBytes wordBytes rest
   drop-is = refl
 
-  byte-is : (i : ℕ) → i < length (a .categoryBytes) → getD (drop 8 (openedSettings a settings)) i 0 ≡ getD (a .categoryBytes) i 0
+  byte-is : (i : ℕ) → i < length (a .categoryBytes) → getD (drop headerLength (openedSettings a settings)) i 0 ≡ getD (a .categoryBytes) i 0
   byte-is i h =
       rw drop-is
       (List·getD-append (a .categoryBytes ++ a .dayTypes) rest 0 i (rw (length-append (a .categoryBytes) (a .dayTypes)) (omega arith))
       ∙ List·getD-append (a .categoryBytes) (a .dayTypes) 0 i h)
 
-  record-is : (c : ℕ) → c < length (a .categoryBytes) / 8 → categoryOf (openedSettings a settings) c ≡ categoryAt (a .categoryBytes) c
+  record-is : (c : ℕ) → c < categories a → categoryOf (openedSettings a settings) c ≡ categoryAt (a .categoryBytes) c
   unfolding categoryOf categoryAt
   record-is c h =
       λ i.
@@ -108,36 +107,36 @@ module _ (a : Opening) (settings : List ℕ) (whole : length (a .categoryBytes) 
         deMinimis = 256 * byte-is (8 * c + 6) (omega (arith, whole)) i + byte-is (8 * c + 7) (omega (arith, whole)) i;
       }
 
-  categories-is : categoriesOf (openedSettings a settings) ≡ length (a .categoryBytes) / 8
-  unfolding categoriesOf word openedSettings wordBytes
-  categories-is = two (length (a .categoryBytes) / 8)
+  categories-is : categoriesOf (openedSettings a settings) ≡ categories a
+  unfolding categoriesOf word openedSettings headerBytes wordBytes
+  categories-is = two (categories a)
 
-  type-is : (d : ℕ) → d < length (a .dayTypes) → dayTypeOf (openedSettings a settings) d ≡ getD (a .dayTypes) d 0
+  type-is : (d : ℕ) → d < dates a → dayTypeOf (openedSettings a settings) d ≡ getD (a .dayTypes) d 0
   unfolding dayTypeOf
   type-is d h =
       rw (categories-is, ← whole)
-      (ap (λ i. getD (openedSettings a settings) i 0) (add-assoc 8 (length (a .categoryBytes)) d)
-      ∙ sym (getD-drop 8 (openedSettings a settings) (length (a .categoryBytes) + d) 0)
+      (ap (λ i. getD (openedSettings a settings) i 0) (add-assoc headerLength (length (a .categoryBytes)) d)
+      ∙ sym (getD-drop headerLength (openedSettings a settings) (length (a .categoryBytes) + d) 0)
       ∙ rw drop-is
       (List·getD-append (a .categoryBytes ++ a .dayTypes) rest 0 (length (a .categoryBytes) + d) (rw (length-append (a .categoryBytes) (a .dayTypes)) (omega arith))
       ∙ getD-append-add (a .categoryBytes) (a .dayTypes) d 0))
 
-  pub settings-length : settingsLength (length (a .categoryBytes) / 8) (length (a .dayTypes)) ≤ length settings → length (openedSettings a settings) ≡ length settings
-  unfolding openedSettings wordBytes settingsLength
+  pub settings-length : settingsLength (categories a) (dates a) ≤ length settings → length (openedSettings a settings) ≡ length settings
+  unfolding openedSettings headerBytes wordBytes settingsLength
   settings-length h =
-      let x = length-append (a .categoryBytes ++ a .dayTypes) (drop (8 + 8 * (length (a .categoryBytes) / 8) + length (a .dayTypes)) settings) in
+      let x = length-append (a .categoryBytes ++ a .dayTypes) (drop (headerLength + 8 * categories a + dates a) settings) in
       let y = length-append (a .categoryBytes) (a .dayTypes) in
-      let z = length-drop (8 + 8 * (length (a .categoryBytes) / 8) + length (a .dayTypes)) settings in
+      let z = length-drop (headerLength + 8 * categories a + dates a) settings in
       omega (arith, whole)
 
-  pub settings-agree : settingsLength (length (a .categoryBytes) / 8) (length (a .dayTypes)) ≤ length settings → SettingsAgree a (openedSettings a settings)
-  unfolding durationOf metersOf datesOf word openedSettings wordBytes
+  pub settings-agree : settingsLength (categories a) (dates a) ≤ length settings → SettingsAgree a (openedSettings a settings)
+  unfolding durationOf metersOf datesOf word openedSettings headerBytes wordBytes
   settings-agree h =
       record {
         duration = two (a .duration);
         meters = two (a .meters);
         categories-are = categories-is;
-        dates-are = two (length (a .dayTypes));
+        dates-are = two (dates a);
         records = record-is;
         types = type-is;
         long = rw (settings-length h) h;
@@ -145,7 +144,7 @@ module _ (a : Opening) (settings : List ℕ) (whole : length (a .categoryBytes) 
 
 -- ---- the other parts are emptied
 
-pub emptied-at : (n : ℕ) (xs : List ℕ) (i : ℕ) → i < n → getD (emptied n xs) i 0 ≡ 0
+emptied-at : (n : ℕ) (xs : List ℕ) (i : ℕ) → i < n → getD (emptied n xs) i 0 ≡ 0
 unfolding emptied
 emptied-at n xs i h = List·getD-append (replicate n 0) (drop n xs) 0 i (rw (length-replicate {A = ℕ} n 0) h) ∙ getD-replicate {A = ℕ} n i 0 0 h
 

@@ -1,4 +1,4 @@
--- A registration: the same checks, and the relation kept.
+-- A registration: the store's checks are the ledger's, since it finds the same meter; and what an accepted one writes keeps the relation.
 use Prim.Native.Nat.{ℕ, zero, suc, _+_, _≤_, _<_}
 use mathlib.Core.Path.{_≡_, refl, sym, ap, _∙_}
 use mathlib.Core.Logic.{_≢_}
@@ -11,20 +11,20 @@ use native.Mathlib.Numerals.{add-one}
 use lib.Dec.{eqb, leb, ltb}
 use lib.ListN.{length, length-append}
 use borrow.Table.Steps.{cases}
-use borrow.Author.Tests.{eq-eqb, ne-eqb, leb-false, lt-ltb, ltb-true}
+use borrow.Author.Tests.{eq-eqb, ne-eqb, eqb-true, leb-false, lt-ltb, ltb-true, not-false}
 use Rattle.metering.specs.Mpan.{mpanValid}
 use Rattle.metering.specs.Range.{between}
 use Rattle.metering.specs.Laws.{mpanValid-bounds, between-true}
-use Rattle.ledger.specs.Checks.{Registration, RegistrationCall, registered, startOf, anyBelow, notAfterLast, registrationInRange, meterNumber, registrationCheck}
+use Rattle.ledger.specs.Checks.{Registration, RegistrationCall, firstNumber, callNumber, registered, startOf, anyBelow, fieldsNumber, meterNumber, registrationCheck}
 use Rattle.ledger.specs.Ledger.{Opening, categories, dates, Meter, Ledger, meterWith, changed, registrationsOf, heldFrom, withRegistration, registerIn}
 use Rattle.ledger.specs.Store.{usedFrom, metersOf, datesOf, categoriesOf, periodsOf, mpanAt, slotOf, registrationAt, registrationsAt, knownAt, putRegistration}
 use Rattle.ledger.specs.Calls.{usedOf, slotFor, registrationsFor, heldFromAt, registeredMeters}
-use Rattle.ledger.proofs.Choices.{check-passed, not-false}
+use Rattle.ledger.proofs.Choices.{check-passed, both-passed, call-passed, known-passed}
 use Rattle.ledger.proofs.Relation.{SoundRegistrations, SoundMeter, SoundMeters, SettingsAgree, MeterAt, FreeAt, MetersAgree, HeldAt, NotHeldAt, ReadingsAgree, Sound}
 use Rattle.ledger.proofs.Slots.{positionOf, position-new, at-position, free-past, slots-changed, slots-added, slot-is}
 use Rattle.ledger.proofs.Registrations.{SlotSame, meter-stands, free-stands, length-put, put-mpan, put-registration, put-others, put-slots, used-more}
 
-pub any-cong : (n : ℕ) (f g : ℕ → Bool) → ((k : ℕ) → k < n → f k ≡ g k) → anyBelow n f ≡ anyBelow n g
+any-cong : (n : ℕ) (f g : ℕ → Bool) → ((k : ℕ) → k < n → f k ≡ g k) → anyBelow n f ≡ anyBelow n g
 unfolding anyBelow
 any-cong zero f g h = refl
 any-cong (suc n) f g h = rw (any-cong n f g (λ k l. h k (omega arith)), h n (omega arith))
@@ -61,14 +61,14 @@ module _ (o : Opening) (s m r : List ℕ) (known : List Meter) (agree : Settings
   registrations-found = rw (agree .meters, slot-there) (found-as (meterWith mpan known) refl)
 
   -- whether sets are held on or after a start
-  pub held-found : (from : ℕ) (x : Meter) → meterWith mpan known ≡ some x → heldFromAt s m r from (slotFor s m r mpan) ≡ heldFrom (dates o) from (some x)
+  held-found : (from : ℕ) (x : Meter) → meterWith mpan known ≡ some x → heldFromAt s m r from (slotFor s m r mpan) ≡ heldFrom (dates o) from (some x)
   unfolding heldFromAt heldFrom periodsOf
   held-found from x e =
       let a = at-position (o .meters) (HeldAt o r) (NotHeldAt o r) mpan 0 known x (readingsAgree .slots) e in
       rw (slot-found, agree .dates-are) (any-cong (dates o) _ _ (λ d l. rw (agree .meters, agree .duration, a .1 .marks d l)))
 
   -- the checks that look at what is known
-  pub meter-number : (from : ℕ) →
+  meter-number : (from : ℕ) →
       meterNumber (leb (metersOf s) (slotFor s m r mpan)) from (heldFromAt s m r from (slotFor s m r mpan)) (registrationsFor s m r mpan)
       ≡ meterNumber (leb (o .meters) (length known)) from (heldFrom (dates o) from (meterWith mpan known)) (registrationsOf (meterWith mpan known))
   meter-number from = rw registrations-found (go (meterWith mpan known) refl)
@@ -87,11 +87,12 @@ pub registration-check : (l : Ledger) (s m r : List ℕ) → SettingsAgree (l .o
     ≡ registrationCheck false (dates (l .opening)) (categories (l .opening)) (leb (l .opening .meters) (length (l .known)))
     (heldFrom (dates (l .opening)) (startOf (a .date) (a .minute)) (meterWith (a .mpan) (l .known)))
     (registrationsOf (meterWith (a .mpan) (l .known))) a
-unfolding registrationCheck
+unfolding registrationCheck firstNumber
 registration-check l s m r agree metersAgree readingsAgree sound a =
-    cases (mpanValid (a .mpan))
+    cases (eqb (callNumber false (dates (l .opening)) (a .mpan) (a .date)) 0)
     (λ q.
-    let numbered : a .mpan ≢ 0 = λ (w : a .mpan ≡ 0). let b = mpanValid-bounds (a .mpan) q in omega arith in
+    let passed = call-passed false (dates (l .opening)) (a .mpan) (a .date) (eqb-true _ 0 q) in
+    let numbered : a .mpan ≢ 0 = λ (w : a .mpan ≡ 0). let b = mpanValid-bounds (a .mpan) (passed .valid) in omega arith in
     rw (
       agree .dates-are,
       agree .categories-are,
@@ -116,21 +117,20 @@ pub registration-accepted : (o : Opening) (known : List Meter) (short : Bool) (a
     (heldFrom (dates o) (startOf (a .date) (a .minute)) (meterWith (a .mpan) known))
     (registrationsOf (meterWith (a .mpan) known)) a ≡ 0 →
     RegistrationAccepted o known a
-unfolding registrationCheck registrationInRange
+unfolding registrationCheck fieldsNumber
 registration-accepted o known short a e =
-    let p1 = check-passed short 0 _ e in
-    let p9 = check-passed (leb (dates o) (a .date)) 8 _ (p1 .1) in
-    let p6 = check-passed (not (mpanValid (a .mpan))) 5 _ (p9 .1) in
-    let p16 = check-passed (not (leb (a .minute) 1439 && ltb (a .category) (categories o) && between 1 3 (a .status) && ltb (startOf (a .date) (a .minute)) (dates o))) 15 _ (p6 .1) in
+    let p = both-passed _ _ e in
+    let f = both-passed _ _ (p .1) in
+    let p16 = check-passed (not (leb (a .minute) 1439 && ltb (a .category) (categories o) && between 1 3 (a .status) && ltb (startOf (a .date) (a .minute)) (dates o))) 15 0 (f .0) in
     let all = not-false _ (p16 .0) in
     let q = and-eq-true-iff (leb (a .minute) 1439 && ltb (a .category) (categories o) && between 1 3 (a .status)) (ltb (startOf (a .date) (a .minute)) (dates o)) .0 all .0 in
     let w = and-eq-true-iff (leb (a .minute) 1439 && ltb (a .category) (categories o)) (between 1 3 (a .status)) .0 q in
     let v = and-eq-true-iff (leb (a .minute) 1439) (ltb (a .category) (categories o)) .0 (w .0) in
     record {
-      valid = not-false (mpanValid (a .mpan)) (p6 .0);
+      valid = call-passed _ _ _ _ (p .0) .valid;
       category-is = ltb-true (a .category) (categories o) (v .1);
       status-is = λ (z : a .status ≡ 0). let b = between-true 1 3 (a .status) .0 (w .1) in omega arith;
-      meter-ok = p16 .1;
+      meter-ok = f .1;
     }
 
 -- ---- the relation after it
@@ -267,9 +267,7 @@ module _ (l : Ledger) (s m r : List ℕ) (agree : SettingsAgree (l .opening) s) 
     unfolding meterNumber
     room-known =
         let z : meterNumber (leb (l .opening .meters) (length (l .known))) (startOf (a .date) (a .minute)) (heldFrom (dates (l .opening)) (startOf (a .date) (a .minute)) (some x)) (some (x .registrations)) ≡ 0 = rw e at (ok .meter-ok) in
-        let p10 = check-passed (notAfterLast (startOf (a .date) (a .minute)) false (x .registrations)) 9 _ z in
-        let p11 = check-passed (heldFrom (dates (l .opening)) (startOf (a .date) (a .minute)) (some x)) 10 _ (p10 .1) in
-        leb-false 8 (length (x .registrations)) (check-passed (leb 8 (length (x .registrations))) 11 0 (p11 .1) .0)
+        known-passed _ _ (x .registrations) z
 
     here-known : positionOf (a .mpan) 0 (l .known) < l .opening .meters
     here-known = at-position (l .opening .meters) (MeterAt (l .opening .meters) m) (FreeAt (l .opening .meters) m) (a .mpan) 0 (l .known) x (metersAgree .slots) e .0

@@ -1,4 +1,4 @@
--- The rows of cells that a run writes: the date's own, then those of later dates, with the count of what moved.
+-- The rows of cells that a run writes, the date's own and then those of later dates, are the columns' cells: the walk keeps new rows before it and old ones from it on.
 use Prim.Native.Nat.{ℕ, zero, suc, _+_, _-_, _*_, _≤_, _<_}
 use mathlib.Core.Path.{_≡_, refl, sym, ap, _∙_}
 use mathlib.Core.Logic.{_≢_}
@@ -9,64 +9,18 @@ use native.Mathlib.Omega.{arith}
 use native.Mathlib.Nat.{add-zero, zero-add, add-suc, suc-add, mul-le-mul-right}
 use lib.Arith.{lt-of-le-ne}
 use lib.Dec.{eqb, leb}
-use lib.ListN.{length, getD}
-use lib.Seq.{sets, sets-eq, length-sets}
+use lib.ListN.{length}
 use borrow.Table.Steps.{cases}
 use borrow.Author.Tests.{eq-eqb, ne-eqb, eqb-true, eqb-false, leb-true, leb-false}
 use Rattle.metering.specs.Sum.{sumBelow, sumBelow-suc}
 use Rattle.ledger.specs.Method.{A, D, E, N, flagNumber, Fresh, Cell, blank, carried, cellFrom, movedCell, Day, latest, cellOn}
 use Rattle.ledger.specs.Table.{tabulate}
-use Rattle.ledger.specs.Store.{rowLength, dayTypeOf, entryOf, flagNumberOf, isRunAt}
-use Rattle.ledger.specs.Calls.{carriedEntry, rowEntry, rowAt, putRow, lastRun, inheritedFrom, comparedEntry, differing, Ran, followRow, inheritedAfter, movedInRow, carryOn}
-use Rattle.ledger.proofs.Lists.{below-suc, getD-sets-below, getD-sets-above, getD-sets-at, length-tabulate, getD-tabulate, sumBelow-cong, sumBelow-none, none-of-sum, sumBelow-more}
+use Rattle.ledger.specs.Store.{datesOf, rowLength, dayTypeOf, entryOf, flagNumberOf, isRunAt}
+use Rattle.ledger.specs.Calls.{carriedEntry, rowEntry, rowAt, putRow, follows, lastRun, inheritedFrom, comparedEntry, differing, Ran, followedEntry, inheritedBeyond, followRow, inheritedAfter, movedInRow, carryOn, movedByRow, settled}
+use Rattle.ledger.proofs.Lists.{below-suc, length-tabulate, getD-tabulate, sumBelow-cong, sumBelow-none, none-of-sum, sumBelow-more}
 use Rattle.ledger.proofs.Entries.{Small, SmallFresh, flag-entry, entry-some, moved-entry, unmoved, moved-same, carry-entry, row-entry, follow-entry, over-entry}
+use Rattle.ledger.proofs.Walks.{length-putRow, row-put, row-kept, carryOn-end, carryOn-pass, carryOn-stop, carryOn-go}
 use Rattle.ledger.proofs.Columns.{dayIf, latest-other-type, latest-not-run, latest-run, cell-run, cell-not-run, latest-small, cell-small, latest-before, latest-other, latest-after, cell-alike}
-
--- ---- a row put in place
-
-module _ (n d : ℕ) (row cells : List ℕ) (long : length row ≡ n) (fits : d * n + n ≤ length cells) where
-  put-sets : putRow n d row cells ≡ sets cells (d * n) row
-  unfolding putRow
-  put-sets = rw (sets-eq row cells (d * n) (rw long fits), long)
-
-  pub length-putRow : length (putRow n d row cells) ≡ length cells
-  length-putRow = rw put-sets (length-sets cells (d * n) row)
-
-  pub row-put : (k : ℕ) → k < n → rowAt n (putRow n d row cells) d k ≡ getD row k 0
-  unfolding rowAt
-  row-put k h = rw put-sets (getD-sets-at row cells (d * n) k (rw long h) (rw long fits))
-
-  pub row-kept : (x k : ℕ) → x ≢ d → k < n → rowAt n (putRow n d row cells) x k ≡ rowAt n cells x k
-  unfolding rowAt
-  row-kept x k other h =
-      rw put-sets
-      (cases (leb (suc x) d)
-      (λ q. getD-sets-below row cells (d * n) (x * n + k) (let l = leb-true (suc x) d q in omega (arith, mul-le-mul-right n l)))
-      (λ q. getD-sets-above row cells (d * n) (x * n + k) (rw long (let l = leb-false (suc x) d q in above (lt-of-le-ne (omega arith) (λ (e : d ≡ x). other (sym e)))))))
-    where
-      above : d < x → d * n + n ≤ x * n + k
-      above l = omega (arith, mul-le-mul-right n l)
-
--- ---- the walk over later dates, a branch at a time
-
-module _ (s : List ℕ) (t m : ℕ) (inherited : ℕ → ℕ) (d : ℕ) (cells : List ℕ) (moved : ℕ) where
-  pub carryOn-end : carryOn s t 0 inherited d cells moved ≡ record { cells = cells; moved = moved }
-  unfolding carryOn
-  carryOn-end = refl
-
-  pub carryOn-pass : (eqb (dayTypeOf s d) t && isRunAt (rowLength s) cells d) ≡ false → carryOn s t (suc m) inherited d cells moved ≡ carryOn s t m inherited (suc d) cells moved
-  unfolding carryOn
-  carryOn-pass e = rw e
-
-  pub carryOn-stop : (eqb (dayTypeOf s d) t && isRunAt (rowLength s) cells d) ≡ true → eqb (movedInRow (rowLength s) cells d inherited) 0 ≡ true → carryOn s t (suc m) inherited d cells moved ≡ record { cells = cells; moved = moved }
-  unfolding carryOn
-  carryOn-stop e q = rw (e, q)
-
-  pub carryOn-go : (eqb (dayTypeOf s d) t && isRunAt (rowLength s) cells d) ≡ true → eqb (movedInRow (rowLength s) cells d inherited) 0 ≡ false →
-      carryOn s t (suc m) inherited d cells moved
-      ≡ carryOn s t m (inheritedAfter (rowLength s) cells d inherited) (suc d) (putRow (rowLength s) d (tabulate (rowLength s) (followRow (rowLength s) cells d inherited)) cells) (moved + movedInRow (rowLength s) cells d inherited)
-  unfolding carryOn
-  carryOn-go e q = rw (e, q)
 
 -- ---- what a column's cells are in the store
 
@@ -186,7 +140,7 @@ module _ (s : List ℕ) (n T : ℕ) (dt : ℕ → ℕ) (places : 0 < n) (few : T
     not-date : d ≢ date
     not-date e = let p = c .past in omega arith
 
-    test-is : (eqb (dayTypeOf s d) (dt date) && isRunAt (rowLength s) cells d) ≡ (eqb (dt d) (dt date) && runO d)
+    test-is : follows s (dt date) cells d ≡ (eqb (dt d) (dt date) && runO d)
     test-is = rw (rowIs, types d h, run-at n cells d (runO d) (cellO 0 d) (cellO-small 0 d h) (c .old-rows d 0 (omega arith) h places))
 
     -- a date that is passed over
@@ -226,13 +180,13 @@ module _ (s : List ℕ) (n T : ℕ) (dt : ℕ → ℕ) (places : 0 < n) (few : T
       entry-old k l = c .old-rows d k (omega arith) h l ∙ rw (r, old-is k)
 
       follow-is : (k : ℕ) → k < n → followRow n cells d inherited k ≡ entryOf (cellN k d)
-      unfolding followRow
+      unfolding followRow followedEntry
       follow-is k l =
           rw (entry-old k l, c .inherited-beyond k l, new-is k)
           (follow-entry d (latestO k (dt date) d) (latestN k (dt date) d) (omega arith) (latestO-small k (dt date) d h) (latestN-small k (dt date) d h) (freshO k d) (smallO k d))
 
       over-is : (k : ℕ) → k < n → inheritedAfter n cells d inherited k ≡ entryOf (carried (latestN k (dt date) (suc d)))
-      unfolding inheritedAfter
+      unfolding inheritedAfter inheritedBeyond
       over-is k l =
           rw (entry-old k l, c .inherited-beyond k l)
           (over-entry d (latestO k (dt date) d) (latestN k (dt date) d) (omega arith) (latestO-small k (dt date) d h) (latestN-small k (dt date) d h) (freshO k d) (smallO k d)
@@ -320,10 +274,10 @@ module _ (s : List ℕ) (n T : ℕ) (dt : ℕ → ℕ) (places : 0 < n) (few : T
 
   -- the walk from date d to the last
   walk : (L : ℕ) → T * n ≤ L → (m : ℕ) (inherited : ℕ → ℕ) (d : ℕ) (cells : List ℕ) (moved : ℕ) → d + m ≡ T → Come L inherited d cells moved →
-      Good L (carryOn s (dt date) m inherited d cells moved)
+      Good L (carryOn putRow s (dt date) m inherited d cells moved)
   walk L room zero inherited d cells moved e c =
       let at-end : d ≡ T = sym (add-zero d) ∙ e in
-      rw (carryOn-end s (dt date) 0 inherited d cells moved)
+      rw (carryOn-end putRow s (dt date) 0 inherited d cells moved)
       (record {
         cells-are = λ x k l m. c .new-rows x k (omega arith) m;
         moved-is = c .so-far ∙ ap (λ x. sumBelow x movedOn) at-end;
@@ -337,13 +291,13 @@ module _ (s : List ℕ) (n T : ℕ) (dt : ℕ → ℕ) (places : 0 < n) (few : T
       let p = and-eq-true-iff (eqb (dt d) (dt date)) (runO d) .0 b in
       cases (eqb (movedInRow n cells d inherited) 0)
       (λ z.
-      rw (carryOn-stop s (dt date) m inherited d cells moved (test-is L inherited d cells moved c h ∙ b) (rw rowIs z))
+      rw (carryOn-stop putRow s (dt date) m inherited d cells moved (test-is L inherited d cells moved c h ∙ b) (rw rowIs z))
       (stop-good L inherited d cells moved c h (p .0) (p .1) (eqb-true _ _ z)))
       (λ z.
-      rw (carryOn-go s (dt date) m inherited d cells moved (test-is L inherited d cells moved c h ∙ b) (rw rowIs z), rowIs)
+      rw (carryOn-go putRow s (dt date) m inherited d cells moved (test-is L inherited d cells moved c h ∙ b) (rw rowIs z), rowIs)
       (walk L room m _ (suc d) _ _ e′ (go-come L inherited d cells moved c h (p .0) (p .1) room))))
       (λ b.
-      rw (carryOn-pass s (dt date) m inherited d cells moved (test-is L inherited d cells moved c h ∙ b))
+      rw (carryOn-pass putRow s (dt date) m inherited d cells moved (test-is L inherited d cells moved c h ∙ b))
       (walk L room m inherited (suc d) cells moved e′ (pass-come L inherited d cells moved c h b)))
 
   -- ---- the date's own row
@@ -369,7 +323,7 @@ module _ (s : List ℕ) (n T : ℕ) (dt : ℕ → ℕ) (places : 0 < n) (few : T
         ∙ ap (λ a. entryOf (carried a)) (here t d k (p .0) (p .1))))
         (λ b. rw (last-before t d h b) (over-from t d (omega arith) k l ∙ ap (λ a. entryOf (carried a)) (sym (before t d k b))))
       where
-        test : (t d : ℕ) → d < T → (eqb (dayTypeOf s d) t && isRunAt (rowLength s) cells d) ≡ (eqb (dt d) t && runO d)
+        test : (t d : ℕ) → d < T → follows s t cells d ≡ (eqb (dt d) t && runO d)
         test t d h = rw (rowIs, types d h, run-is d h)
 
         last-here : (t d : ℕ) → d < T → (eqb (dt d) t && runO d) ≡ true → lastRun s cells t (suc d) ≡ some d
@@ -392,7 +346,7 @@ module _ (s : List ℕ) (n T : ℕ) (dt : ℕ → ℕ) (places : 0 < n) (few : T
             (λ q. latest-other-type dt (columnDay runO freshO k) t d q)
 
     -- the date is run, with its new row
-    module _ (h : date < T) (ranN : runN date ≡ true) (new : ℕ → ℕ)
+    module _ (datesAre : datesOf s ≡ T) (h : date < T) (ranN : runN date ≡ true) (new : ℕ → ℕ)
         (newIs : (k : ℕ) → k < n → new k ≡ rowEntry date (freshN k date) (inheritedFrom n cells (lastRun s cells (dt date) date) k)) where
       new-entry : (k : ℕ) → k < n → new k ≡ entryOf (cellN k date)
       unfolding cellN
@@ -451,11 +405,9 @@ module _ (s : List ℕ) (n T : ℕ) (dt : ℕ → ℕ) (places : 0 < n) (few : T
               (cell-run dt (columnDay runN freshN k) 0 date (freshN k date) (rw ranN)
               ∙ sym (latest-run dt (columnDay runN freshN k) (dt date) date (freshN k date) (rw ranN) (eq-eqb (dt date) (dt date) refl)))
 
-      ran-good : Good L (carryOn s (dt date) (T - suc date) (λ k. carriedEntry (new k)) (suc date) (putRow n date (tabulate n new) cells) (differing n (λ k. comparedEntry (rowAt n cells date k)) new))
+      ran-good : Good L (carryOn putRow s (dt date) (T - suc date) (λ k. carriedEntry (new k)) (suc date) (putRow n date (tabulate n new) cells) (differing n (λ k. comparedEntry (rowAt n cells date k)) new))
       ran-good = walk L room (T - suc date) _ (suc date) _ _ (omega arith) row-come
 
-      pub run-good :
-          RunLeaves n T dt runO runN freshO freshN L
-          (carryOn s (dt date) (T - suc date) (λ k. carriedEntry (new k)) (suc date) (putRow n date (tabulate n new) cells) (differing n (λ k. comparedEntry (rowAt n cells date k)) new))
-      unfolding movedOn cellO cellN
-      run-good = record { cells-are = ran-good .cells-are; moved-is = ran-good .moved-is; as-long = ran-good .as-long }
+      pub run-good : RunLeaves n T dt runO runN freshO freshN L (settled putRow s new cells date)
+      unfolding movedOn cellO cellN settled movedByRow
+      run-good = rw (rowIs, types date h, datesAre) (record { cells-are = ran-good .cells-are; moved-is = ran-good .moved-is; as-long = ran-good .as-long })

@@ -1,8 +1,8 @@
 -- A run keeps the relation, and what it reports is the number of the ledger's cells that differ.
-use Prim.Native.Nat.{ℕ, suc, _+_, _-_, _*_, _/_, _%_, _≤_, _<_, zero-le}
+use Prim.Native.Nat.{ℕ, suc, _+_, _*_, _/_, _%_, _≤_, _<_, zero-le}
 use mathlib.Core.Path.{_≡_, refl, sym, ap, _∙_, fun-ext}
 use mathlib.Core.Logic.{_≢_, ⊎-elim}
-use mathlib.Core.Bool.{true, false, _&&_, cond, and-eq-true-iff}
+use mathlib.Core.Bool.{Bool, true, false, _&&_, cond, and-eq-true-iff}
 use mathlib.Core.List.{List, [], _∷_, _++_}
 use mathlib.Core.Option.{Option, none, some}
 use native.Mathlib.Omega.{arith}
@@ -11,46 +11,40 @@ use lib.Arith.{digits-div, digits-mod}
 use lib.Dec.{eqb, leb}
 use lib.ListN.{length, length-append}
 use borrow.Table.Steps.{cases}
-use borrow.Author.Tests.{eq-eqb, ne-eqb, leb-true}
-use Rattle.metering.specs.Average.{average}
-use Rattle.metering.specs.Laws.{average-le}
+use borrow.Author.Tests.{eq-eqb, ne-eqb}
 use Rattle.metering.specs.Calendar.{periodsPerDay}
-use Rattle.ledger.specs.Method.{Category, isSmart, sameFamily, ReadingSet, Picture, wattHours, present, total, freshOf, freshIn, cellOn}
+use Rattle.ledger.specs.Method.{Category, isSmart, sameFamily, ReadingSet, Picture, wattHours, present, total, isEnough, freshOf, freshIn, cellOn}
 use Rattle.ledger.specs.Checks.{Registration, later, inForceAfter, inForce}
 use Rattle.ledger.specs.Sizes.{cellsLength}
 use Rattle.ledger.specs.Ledger.{Opening, categories, dates, periods, category, dayType, Meter, Ledger, at, dayOf, cellBy, isPicture, heldSetsOf, pictureOf, movedBetween}
-use Rattle.ledger.specs.Table.{tabulate}
 use Rattle.ledger.specs.Store.{periodsOf, rowLength, categoryOf}
-use Rattle.ledger.specs.Calls.{familyTally, freshAt, carriedEntry, rowEntry, rowAt, putRow, lastRun, inheritedFrom, comparedEntry, differing, carryOn, newRow, ranFrom}
+use Rattle.ledger.specs.Calls.{familyTally, freshAt, rowEntry, lastRun, inheritedFrom, newRow, ranFrom}
 use Rattle.ledger.proofs.Lists.{sumBelow-cong, sumBelow-rows}
 use Rattle.ledger.proofs.Entries.{SmallFresh}
 use Rattle.ledger.proofs.Columns.{dayIf}
 use Rattle.ledger.proofs.Rows.{columnCell, RunLeaves, run-good}
 use Rattle.ledger.proofs.Relation.{Valid, SoundRegistrations, SoundMeters, SoundPicture, SettingsAgree, MetersAgree, ReadingsAgree, shapeOf, shapes, CellsAgree, Sound}
-use Rattle.ledger.proofs.Tallies.{count-le, sum-le, family-total, tally-is}
+use Rattle.ledger.proofs.Tallies.{count-le, sum-le, enough-some, average-small, family-total, tally-is}
 
 -- ---- own shapes have room
 
-average-small : (s n : ℕ) → 1 ≤ n → s ≤ n * 4294967295 → average s n < 4294967296
-average-small s n h l = let p = average-le s n 4294967295 h l in omega arith
-
-fresh-small : (a : Category) (s n S K : ℕ) → s ≤ n * 4294967295 → n ≤ 1024 → S ≤ K * 4294967295 → K ≤ 1024 → SmallFresh (freshOf a s n S K)
+fresh-small : (smart : Bool) (m s n S K : ℕ) → s ≤ n * 4294967295 → n ≤ 1024 → S ≤ K * 4294967295 → K ≤ 1024 → SmallFresh (freshOf smart m s n S K)
 unfolding freshOf
-fresh-small a s n S K l m L k =
-    cases (leb 1 n && leb (a .deMinimis) n)
-    (λ e. rw e (average-small s n (leb-true 1 n (and-eq-true-iff (leb 1 n) (leb (a .deMinimis) n) .0 e .0)) l, omega arith))
+fresh-small smart m s n S K l few L k =
+    cases (isEnough n m)
+    (λ e. rw e (average-small s n (enough-some n m e) l, omega arith))
     (λ e.
     rw e
-    (cases (isSmart a && leb 1 K && leb (a .deMinimis) K)
-    (λ q. rw q (average-small S K (leb-true 1 K (and-eq-true-iff (isSmart a) (leb 1 K) .0 (and-eq-true-iff (isSmart a && leb 1 K) (leb (a .deMinimis) K) .0 q .0) .1)) L, omega arith))
+    (cases (smart && isEnough K m)
+    (λ q. rw q (average-small S K (enough-some K m (and-eq-true-iff smart (isEnough K m) .0 q .1)) L, omega arith))
     (λ q. rw q tt)))
 
-pub picture-small : (C : ℕ) (categoryOf : ℕ → Category) (p : Picture) → SoundPicture C p → length p ≤ 1024 → (c j : ℕ) → SmallFresh (freshIn categoryOf p c j)
+picture-small : (C : ℕ) (categoryOf : ℕ → Category) (p : Picture) → SoundPicture C p → length p ≤ 1024 → (c j : ℕ) → SmallFresh (freshIn categoryOf p c j)
 unfolding freshIn
 picture-small C categoryOf p s few c j =
     let n = count-le (eqb c) p j in
     let k = count-le (λ b. sameFamily (categoryOf c) (categoryOf b)) p j in
-    fresh-small (categoryOf c) _ _ _ _
+    fresh-small (isSmart (categoryOf c)) (categoryOf c .deMinimis) _ _ _ _
     (sum-le C (eqb c) p j s)
     (omega arith)
     (sum-le C (λ b. sameFamily (categoryOf c) (categoryOf b)) p j s)
@@ -76,7 +70,7 @@ sound-append : (C : ℕ) (a b : Picture) → SoundPicture C a → SoundPicture C
 sound-append C [] b s t = t
 sound-append C (e ∷ es) b s t = (s .0, s .1, sound-append C es b (s .2) t)
 
-pub picture-sound : (C date : ℕ) (ms : List Meter) → SoundMeters C ms → SoundPicture C (pictureOf date ms)
+picture-sound : (C date : ℕ) (ms : List Meter) → SoundMeters C ms → SoundPicture C (pictureOf date ms)
 unfolding pictureOf inForce
 picture-sound C date [] s = tt
 picture-sound C date (m ∷ ms) s =
@@ -92,7 +86,7 @@ entries-le none r = zero-le
 entries-le (some x) none = zero-le
 entries-le (some x) (some r) = omega arith
 
-pub picture-le : (date : ℕ) (ms : List Meter) → length (pictureOf date ms) ≤ length ms
+picture-le : (date : ℕ) (ms : List Meter) → length (pictureOf date ms) ≤ length ms
 unfolding pictureOf
 picture-le date [] = zero-le
 picture-le date (m ∷ ms) =
@@ -113,7 +107,7 @@ module _ (o : Opening) (s meters readings : List ℕ) (known : List Meter) (agre
       (λ b l. rw (agree .records c hc, agree .records b l, tally-is o s meters readings agree date b j h low high measure known metersAgree readingsAgree))
       ∙ sym (family-total measure (λ b. sameFamily (category o c) (category o b)) (categories o) j (pictureOf date known) (picture-sound (categories o) date known sound)))
 
-  pub fresh-is : (c j : ℕ) → c < categories o → 1 ≤ j → j ≤ periods o → freshAt s meters readings date c j ≡ freshIn (category o) (pictureOf date known) c j
+  fresh-is : (c j : ℕ) → c < categories o → 1 ≤ j → j ≤ periods o → freshAt s meters readings date c j ≡ freshIn (category o) (pictureOf date known) c j
   unfolding freshAt freshIn
   fresh-is c j hc low high =
       rw (
@@ -206,13 +200,6 @@ module _ (l : Ledger) (s meters readings cells : List ℕ) (sound : Sound l) (ag
       (omega arith)
       (mod-lt k (omega arith))))
 
-  ran-is : ranFrom s meters readings cells date
-      ≡ carryOn s (dayType (l .opening) date) (dates (l .opening) - suc date) (λ k. carriedEntry (newRow s meters readings cells date k)) (suc date)
-      (putRow (categories (l .opening) * periods (l .opening)) date (tabulate (categories (l .opening) * periods (l .opening)) (newRow s meters readings cells date)) cells)
-      (differing (categories (l .opening) * periods (l .opening)) (λ k. comparedEntry (rowAt (categories (l .opening) * periods (l .opening)) cells date k)) (newRow s meters readings cells date))
-  unfolding ranFrom
-  ran-is = rw (row-is, agree .types date h, agree .dates-are)
-
   room : dates (l .opening) * (categories (l .opening) * periods (l .opening)) ≤ length cells
   unfolding cellsLength
   room = cellsAgree .long
@@ -225,14 +212,14 @@ module _ (l : Ledger) (s meters readings cells : List ℕ) (sound : Sound l) (ag
       (λ d. isPicture (l .pictures d)) (λ d. isPicture (at date (some (pictureOf date (l .known))) (l .pictures) d))
       (shapes (l .opening) (l .pictures)) (shapes (l .opening) (at date (some (pictureOf date (l .known))) (l .pictures)))
       (length cells) (ranFrom s meters readings cells date)
+  unfolding ranFrom
   run-leaves =
-      rw ran-is
-      (run-good s (categories (l .opening) * periods (l .opening)) (dates (l .opening)) (dayType (l .opening)) places few-dates row-is (agree .types)
+      run-good s (categories (l .opening) * periods (l .opening)) (dates (l .opening)) (dayType (l .opening)) places few-dates row-is (agree .types)
       (λ d. isPicture (l .pictures d)) (λ d. isPicture (at date (some (pictureOf date (l .known))) (l .pictures) d))
       (shapes (l .opening) (l .pictures)) (shapes (l .opening) (at date (some (pictureOf date (l .known))) (l .pictures)))
       (shapes-small (l .opening) (l .pictures) (sound .pictures-are))
       (shapes-small (l .opening) (at date (some (pictureOf date (l .known))) (l .pictures)) after-sound)
-      date run-alike shapes-alike (length cells) room cells refl (cellsAgree .are) h new-run (newRow s meters readings cells date) new-is)
+      date run-alike shapes-alike (length cells) room cells refl (cellsAgree .are) (agree .dates-are) h new-run (newRow s meters readings cells date) new-is
 
   -- the cells after it are those of the new pictures
   pub run-agrees : CellsAgree (l .opening) (ranFrom s meters readings cells date .cells) (at date (some (pictureOf date (l .known))) (l .pictures))

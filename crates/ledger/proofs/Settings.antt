@@ -13,7 +13,7 @@ use borrow.Author.Tests.{leb-true, leb-false, le-leb, lt-leb, lt-ltb, le-ltb}
 use Rattle.metering.specs.Range.{between, metersInRange, categoriesInRange, datesInRange}
 use Rattle.metering.specs.Calendar.{durationKnown}
 use Rattle.ledger.specs.Method.{categoryAt}
-use Rattle.ledger.specs.Sizes.{settingsLength, metersLength, readingsLength, cellsLength}
+use Rattle.ledger.specs.Sizes.{headerLength, settingsLength, metersLength, readingsLength, cellsLength}
 use Rattle.ledger.specs.Ledger.{Opening, categories, dates, periods, settingsShort, metersShort, cellsShort, anyShort}
 use Rattle.ledger.specs.Store.{word, durationOf, metersOf, categoriesOf, datesOf, periodsOf, categoryOf, dayTypeOf, isOpened, settingsReady, metersReady, readingsReady, cellsReady}
 use Rattle.ledger.specs.Calls.{metersUnready, runUnready, cellsUnready}
@@ -22,14 +22,14 @@ use Rattle.ledger.proofs.Relation.{Valid, SettingsAgree}
 
 -- ---- cut, and long enough
 
-word-cut : (n : ℕ) (s : List ℕ) (k : ℕ) → 8 ≤ n → k < 4 → word (take n s) k ≡ word s k
+word-cut : (n : ℕ) (s : List ℕ) (k : ℕ) → headerLength ≤ n → k < 4 → word (take n s) k ≡ word s k
 unfolding word
 word-cut n s k h l = rw (getD-cut n s (2 * k) (omega arith), getD-cut n s (2 * k + 1) (omega arith))
 
-byte-cut : (n : ℕ) (s : List ℕ) (i : ℕ) → 8 + i < n → getD (drop 8 (take n s)) i 0 ≡ getD (drop 8 s) i 0
-byte-cut n s i h = getD-drop 8 (take n s) i 0 ∙ getD-cut n s (8 + i) h ∙ sym (getD-drop 8 s i 0)
+byte-cut : (n : ℕ) (s : List ℕ) (i : ℕ) → headerLength + i < n → getD (drop headerLength (take n s)) i 0 ≡ getD (drop headerLength s) i 0
+byte-cut n s i h = getD-drop headerLength (take n s) i 0 ∙ getD-cut n s (headerLength + i) h ∙ sym (getD-drop headerLength s i 0)
 
-record-cut : (n : ℕ) (s : List ℕ) (c : ℕ) → 8 + 8 * c + 8 ≤ n → categoryOf (take n s) c ≡ categoryOf s c
+record-cut : (n : ℕ) (s : List ℕ) (c : ℕ) → headerLength + 8 * c + 8 ≤ n → categoryOf (take n s) c ≡ categoryOf s c
 unfolding categoryOf categoryAt
 record-cut n s c h = λ i.
     record {
@@ -46,7 +46,7 @@ pub settings-cut : (o : Opening) (s : List ℕ) (n : ℕ) → SettingsAgree o s 
 unfolding settingsLength durationOf metersOf categoriesOf datesOf dayTypeOf
 settings-cut o s n a h =
     let l = length-take n s in
-    let long : 8 + 8 * categories o + dates o ≤ n = omega arith in
+    let long : headerLength + 8 * categories o + dates o ≤ n = omega arith in
     let C = word-cut n s 2 (omega arith) (omega arith) ∙ a .categories-are in
     record {
       duration = word-cut n s 0 (omega arith) (omega arith) ∙ a .duration;
@@ -54,7 +54,7 @@ settings-cut o s n a h =
       categories-are = C;
       dates-are = word-cut n s 3 (omega arith) (omega arith) ∙ a .dates-are;
       records = λ c m. record-cut n s c (omega arith) ∙ a .records c m;
-      types = λ d m. rw C (getD-cut n s (8 + 8 * categories o + d) (omega arith) ∙ rw (a .categories-are) at (a .types d m));
+      types = λ d m. rw C (getD-cut n s (headerLength + 8 * categories o + d) (omega arith) ∙ rw (a .categories-are) at (a .types d m));
       long = h;
     }
 
@@ -68,7 +68,7 @@ pub duration-known : (d : ℕ) → (d ≡ 15) ⊎ (d ≡ 30) → durationKnown d
 unfolding durationKnown
 duration-known d h = ⊎-elim (λ e. rw e) (λ e. rw e) h
 
-pub settings-ready : (o : Opening) (s : List ℕ) → Valid o → SettingsAgree o s → settingsReady s ≡ true
+settings-ready : (o : Opening) (s : List ℕ) → Valid o → SettingsAgree o s → settingsReady s ≡ true
 unfolding settingsReady isOpened metersInRange categoriesInRange datesInRange
 settings-ready o s v a =
     rw (
@@ -87,15 +87,15 @@ and-false : (a : Bool) → (a && false) ≡ false
 and-false true = refl
 and-false false = refl
 
-pub settings-unready : (o : Opening) (s : List ℕ) (n : ℕ) → SettingsAgree o s → length (take n s) < settingsLength (categories o) (dates o) → settingsReady (take n s) ≡ false
+settings-unready : (o : Opening) (s : List ℕ) (n : ℕ) → SettingsAgree o s → length (take n s) < settingsLength (categories o) (dates o) → settingsReady (take n s) ≡ false
 unfolding settingsReady settingsLength categoriesOf datesOf
 settings-unready o s n a h =
     let l = length-take n s in
     let long : settingsLength (categories o) (dates o) ≤ length s = a .long in
-    rw (lt-leb (8 + 8 * word (take n s) 2 + word (take n s) 3) (length (take n s))
-    (cases (leb 8 n)
-    (λ q. rw (word-cut n s 2 (leb-true 8 n q) (omega arith), word-cut n s 3 (leb-true 8 n q) (omega arith), a .categories-are, a .dates-are) h)
-    (λ q. let m = leb-false 8 n q in omega arith)))
+    rw (lt-leb (headerLength + 8 * word (take n s) 2 + word (take n s) 3) (length (take n s))
+    (cases (leb headerLength n)
+    (λ q. rw (word-cut n s 2 (leb-true headerLength n q) (omega arith), word-cut n s 3 (leb-true headerLength n q) (omega arith), a .categories-are, a .dates-are) h)
+    (λ q. let m = leb-false headerLength n q in omega arith)))
     (and-false (isOpened (take n s)))
 
 not-leb : (a b : ℕ) → not (leb a b) ≡ ltb b a

@@ -1,24 +1,26 @@
--- The sums over slots that a run makes are the sums over the picture's entries.
+-- The sums over slots that a run makes are the sums over the picture's entries, by induction on the meters; and what bounds them and their averages.
 use Prim.Native.Nat.{ℕ, zero, suc, _+_, _*_, _≤_, _<_, zero-le}
 use mathlib.Core.Path.{_≡_, refl, sym, ap, _∙_}
-use mathlib.Core.Bool.{Bool, true, false, _&&_, cond}
+use mathlib.Core.Bool.{Bool, true, false, _&&_, cond, and-eq-true-iff}
 use mathlib.Core.List.{List, [], _∷_, _++_}
 use mathlib.Core.Option.{Option, none, some}
 use native.Mathlib.Omega.{arith}
 use native.Mathlib.Nat.{add-zero, zero-add, add-suc, suc-add, add-assoc}
-use lib.Dec.{eqb}
+use lib.Dec.{leb, eqb}
 use lib.ListN.{length}
+use borrow.Author.Tests.{leb-true}
 use Rattle.metering.specs.Sum.{sumBelow}
-use Rattle.ledger.specs.Method.{Picture, wattHours, present, total}
+use Rattle.metering.specs.Average.{average}
+use Rattle.metering.specs.Laws.{average-le}
+use Rattle.ledger.specs.Method.{ReadingSet, Picture, wattHours, present, total, isEnough}
 use Rattle.ledger.proofs.Lists.{sumBelow-cong, sumBelow-none, sumBelow-plus, sumBelow-one}
-use Rattle.ledger.specs.Method.{ReadingSet}
 use Rattle.ledger.specs.Checks.{Registration, inForce}
 use Rattle.ledger.specs.Ledger.{Opening, dates, periods, Meter, isHeld, heldSetsOf, pictureOf}
 use Rattle.ledger.specs.Store.{metersOf, periodsOf, isHeldAt, readingAt, registrationsAt}
 use Rattle.ledger.specs.Calls.{names, countsFor, tally}
 use Rattle.ledger.proofs.Relation.{SoundPicture, SettingsAgree, MeterAt, MetersFrom, MetersAgree, HeldAt, HeldFrom, ReadingsAgree}
 
-pub total-append : (measure : Option ℕ → ℕ) (chosen : ℕ → Bool) (a b : Picture) (j : ℕ) → total measure chosen (a ++ b) j ≡ total measure chosen a j + total measure chosen b j
+total-append : (measure : Option ℕ → ℕ) (chosen : ℕ → Bool) (a b : Picture) (j : ℕ) → total measure chosen (a ++ b) j ≡ total measure chosen a j + total measure chosen b j
 unfolding total
 total-append measure chosen [] b j = sym (zero-add (total measure chosen b j))
 total-append measure chosen (e ∷ es) b j = let h = total-append measure chosen es b j in omega arith
@@ -46,6 +48,14 @@ sum-le C chosen (e ∷ es) j s =
     let h = sum-le C chosen es j (s .2) in
     let l = wh-le (e .readings j) (s .1 j) in
     (elim (chosen (e .category)) as (λ b. cond b (wattHours (e .readings j)) 0 + total wattHours chosen es j ≤ (cond b (present (e .readings j)) 0 + total present chosen es j) * 4294967295) [ true ↦ omega arith | false ↦ omega arith ])
+
+-- a count that is enough is not 0, and an average of readings has 32 bits
+pub enough-some : (n m : ℕ) → isEnough n m ≡ true → 1 ≤ n
+unfolding isEnough
+enough-some n m e = leb-true 1 n (and-eq-true-iff (leb 1 n) (leb m n) .0 e .0)
+
+pub average-small : (s n : ℕ) → 1 ≤ n → s ≤ n * 4294967295 → average s n < 4294967296
+average-small s n h l = omega (arith, average-le s n 4294967295 h l)
 
 -- over a family: the sum of its categories' sums
 module _ (measure : Option ℕ → ℕ) (chosen : ℕ → Bool) (C j : ℕ) where

@@ -1,7 +1,7 @@
 -- What verdicts, answers and searches come to: one equation a branch.
 use Prim.Native.Nat.{ℕ, zero, suc, _+_, _-_, _≤_, _<_}
 use mathlib.Core.Path.{_≡_, refl, sym, _∙_}
-use mathlib.Core.Bool.{Bool, true, false, cond, or-true, or-false}
+use mathlib.Core.Bool.{Bool, true, false, or-true, or-false}
 use native.Mathlib.Omega.{arith}
 use native.Mathlib.Numerals.{add-one}
 use lib.Dec.{eqb}
@@ -12,25 +12,25 @@ use Rattle.ledger.specs.Ledger.{Answer, answer, accepted, refused, left}
 
 -- the first failed of n, from i on
 
-pub failed-end : (f : ℕ → ℕ) (n i : ℕ) → n ≤ i → firstFailed f (n - i) i ≡ verdict 0
+failed-end : (f : ℕ → ℕ) (n i : ℕ) → n ≤ i → firstFailed f (n - i) i ≡ verdict 0
 unfolding firstFailed
 failed-end f n i h = let e : n - i ≡ 0 = omega arith in rw e
 
-pub failed-pass : (f : ℕ → ℕ) (n i : ℕ) → i < n → f i ≡ 0 → firstFailed f (n - i) i ≡ firstFailed f (n - (i + 1)) (i + 1)
+failed-pass : (f : ℕ → ℕ) (n i : ℕ) → i < n → f i ≡ 0 → firstFailed f (n - i) i ≡ firstFailed f (n - (i + 1)) (i + 1)
 unfolding firstFailed
 failed-pass f n i h e = let m : n - i ≡ suc (n - (i + 1)) = omega arith in rw (m, e, add-one)
 
-pub failed-at : (f : ℕ → ℕ) (n i : ℕ) → i < n → (f i ≡ 0 → ⊥) → firstFailed f (n - i) i ≡ record { number = f i; place = i + 1 }
+failed-at : (f : ℕ → ℕ) (n i : ℕ) → i < n → (f i ≡ 0 → ⊥) → firstFailed f (n - i) i ≡ record { number = f i; place = i + 1 }
 unfolding firstFailed
 failed-at f n i h e = let m : n - i ≡ suc (n - (i + 1)) = omega arith in rw (m, ne-eqb _ _ e, add-one)
 
 -- what is answered and left
 
-pub answer-none : (v : Verdict) (given : Answer) → v .number ≡ 0 → answer v given ≡ given
+answer-none : (v : Verdict) (given : Answer) → v .number ≡ 0 → answer v given ≡ given
 unfolding answer
 answer-none v given e = rw e
 
-pub answer-some : (v : Verdict) (given : Answer) → (v .number ≡ 0 → ⊥) → answer v given ≡ refused (v .number) (v .place)
+answer-some : (v : Verdict) (given : Answer) → (v .number ≡ 0 → ⊥) → answer v given ≡ refused (v .number) (v .place)
 unfolding answer
 answer-some v given e = rw (ne-eqb _ _ e)
 
@@ -41,6 +41,10 @@ left-none v before after e = rw e
 pub left-some : {A : Type 0} (v : Verdict) (before after : A) → (v .number ≡ 0 → ⊥) → left v before after ≡ before
 unfolding left
 left-some v before after e = rw (ne-eqb _ _ e)
+
+pub left-of : {A B : Type 0} (f : A → B) (v : Verdict) (before after : A) → f (left v before after) ≡ left v (f before) (f after)
+unfolding left
+left-of f v before after = cases (eqb (v .number) 0) (λ t. rw t) (λ t. rw t)
 
 -- the same from a number that a call found, where the verdict has no place
 
@@ -73,11 +77,11 @@ refused-some v n p e h =
 pub refused-not : {A : Type 0} (n p : ℕ) → refused n p ≡ accepted → A
 refused-not n p e = let no : _≡_ {A = ℕ} 0 1 = cc in absurd (omega arith)
 
-pub or-none : (a b : Verdict) → a .number ≡ 0 → orElse a b ≡ b
+or-none : (a b : Verdict) → a .number ≡ 0 → orElse a b ≡ b
 unfolding orElse
 or-none a b e = rw e
 
-pub or-some : (a b : Verdict) → (a .number ≡ 0 → ⊥) → orElse a b ≡ a
+or-some : (a b : Verdict) → (a .number ≡ 0 → ⊥) → orElse a b ≡ a
 unfolding orElse
 or-some a b e = rw (ne-eqb _ _ e)
 
@@ -89,15 +93,17 @@ or-refused a b n p e = rw (or-some a b (refused-some a n p e)) e
 pub or-accepted : (a b : Verdict) → accepted ≡ answer a accepted → orElse a b ≡ b
 or-accepted a b e = or-none a b (accepted-none a e)
 
--- a chain of numbers is a chain of verdicts
-pub or-cond : (b : Bool) (n m : ℕ) (rest : Verdict) → eqb n 0 ≡ false → cond b (verdict n) (orElse (verdict m) rest) ≡ orElse (verdict (cond b n m)) rest
-or-cond true n m rest e = sym (or-some (verdict n) rest (eqb-false _ _ e))
-or-cond false n m rest e = refl
+pub passed-else : (a b : Verdict) → orElse a b .number ≡ 0 → (a .number ≡ 0) × (b .number ≡ 0)
+unfolding orElse
+passed-else a b e =
+    cases (eqb (a .number) 0)
+    (λ q. (eqb-true (a .number) 0 q, rw q at e))
+    (λ q. absurd (eqb-false (a .number) 0 q (rw q at e)))
 
--- and where it gives 0 no check failed
-pub cond-zero : (b : Bool) (n rest : ℕ) → eqb n 0 ≡ false → cond b n rest ≡ 0 → (b ≡ false) × (rest ≡ 0)
-cond-zero true n rest e h = absurd (eqb-false _ _ e h)
-cond-zero false n rest e h = (refl, h)
+-- the same of a number before a verdict
+
+pub number-refused : (n : ℕ) (rest : Verdict) → (n ≡ 0 → ⊥) → refused n 0 ≡ answer (orElse (verdict n) rest) accepted
+number-refused n rest ne = or-refused (verdict n) rest n 0 (sym (answer-some (verdict n) accepted ne))
 
 -- a loop over n things, of which those below i passed: r is the number of thing i
 

@@ -103,7 +103,7 @@ SideExact =
 abbrev pub OwnGroupPair : Type 0
 OwnGroupPair =
     (l : Ledger) (short : Bool) (c : ℕ) →
-    openingCheck (l .opening .duration) (l .opening .meters) (l .opening .categoryBytes) (l .opening .dayTypes) short .number ≡ 0 →
+    openingCheck (l .opening) short .number ≡ 0 →
     c < categories (l .opening) →
     mayNet (category (l .opening)) (categories (l .opening)) false c ≡ true →
     (p : ℕ) × (p < categories (l .opening)) × OnSide false activeExport (category (l .opening) c) (category (l .opening) p)
@@ -131,7 +131,7 @@ NetOfTotals =
 abbrev pub OwnGroupNetOfTotals : Type 0
 OwnGroupNetOfTotals =
     (l : Ledger) (short : Bool) (a : NetCall) →
-    openingCheck (l .opening .duration) (l .opening .meters) (l .opening .categoryBytes) (l .opening .dayTypes) short .number ≡ 0 →
+    openingCheck (l .opening) short .number ≡ 0 →
     a .allGroups ≡ false →
     a .category < categories (l .opening) →
     mayNet (category (l .opening)) (categories (l .opening)) false (a .category) ≡ true →

@@ -24,34 +24,44 @@ callAnswer p (readTotals d c) = answer (totalsVerdict (p .settings) (p .cells) d
 callAnswer p (readCell d c j) = answer (cellVerdict (p .settings) (p .cells) d c j) (cellIs (cellFor (p .settings) (p .cells) d c j))
 callAnswer p (readNet a) = answer (netVerdict (p .settings) (p .cells) a) (netIs (netFor (p .settings) (p .cells) a))
 
--- and what it leaves: each call but the opening writes one part at most
-unfoldable pub metersAfter : Parts → Call → List ℕ
-metersAfter p (register a) =
-    left (registrationVerdict (p .settings) (p .meters) (p .readings) a) (p .meters) (registeredMeters (p .settings) (p .meters) (p .readings) a)
-metersAfter p (receive a) = p .meters
-metersAfter p (run d) = p .meters
-metersAfter p (readTotals d c) = p .meters
-metersAfter p (readCell d c j) = p .meters
-metersAfter p (readNet a) = p .meters
+-- parts of which one is written
+abbrev pub withMeters : List ℕ → Parts → Parts
+withMeters meters p = record { settings = p .settings; meters = meters; readings = p .readings; cells = p .cells }
 
-unfoldable pub readingsAfter : Parts → Call → List ℕ
-readingsAfter p (register a) = p .readings
-readingsAfter p (receive a) =
-    left (receptionVerdict (p .settings) (p .meters) (p .readings) a) (p .readings) (receivedReadings (p .settings) (p .meters) (p .readings) a)
-readingsAfter p (run d) = p .readings
-readingsAfter p (readTotals d c) = p .readings
-readingsAfter p (readCell d c j) = p .readings
-readingsAfter p (readNet a) = p .readings
+abbrev pub withReadings : List ℕ → Parts → Parts
+withReadings readings p = record { settings = p .settings; meters = p .meters; readings = readings; cells = p .cells }
 
-unfoldable pub cellsAfter : Parts → Call → List ℕ
-cellsAfter p (register a) = p .cells
-cellsAfter p (receive a) = p .cells
-cellsAfter p (run d) =
-    left (runVerdict (p .settings) (p .meters) (p .readings) (p .cells) d) (p .cells)
-    (ranFrom (p .settings) (p .meters) (p .readings) (p .cells) d .cells)
-cellsAfter p (readTotals d c) = p .cells
-cellsAfter p (readCell d c j) = p .cells
-cellsAfter p (readNet a) = p .cells
+abbrev pub withCells : List ℕ → Parts → Parts
+withCells cells p = record { settings = p .settings; meters = p .meters; readings = p .readings; cells = cells }
+
+-- and what it leaves of the parts: one of them is written at most
+unfoldable pub leaves : Parts → Call → Parts
+leaves p (register a) =
+    left (registrationVerdict (p .settings) (p .meters) (p .readings) a) p
+    (withMeters (registeredMeters (p .settings) (p .meters) (p .readings) a) p)
+leaves p (receive a) =
+    left (receptionVerdict (p .settings) (p .meters) (p .readings) a) p
+    (withReadings (receivedReadings (p .settings) (p .meters) (p .readings) a) p)
+leaves p (run d) =
+    left (runVerdict (p .settings) (p .meters) (p .readings) (p .cells) d) p
+    (withCells (ranFrom (p .settings) (p .meters) (p .readings) (p .cells) d .cells) p)
+leaves p (readTotals d c) = p
+leaves p (readCell d c j) = p
+leaves p (readNet a) = p
+
+-- the parts after an accepted opening
+unfoldable pub openedParts : Parts → Opening → Parts
+openedParts p a =
+    record {
+      settings = openedSettings a (p .settings);
+      meters = openedMeters a (p .meters);
+      readings = openedReadings a (p .readings);
+      cells = openedCells a (p .cells);
+    }
+
+-- and after any
+unfoldable pub afterOpening : Parts → Opening → Parts
+afterOpening p a = left (openingVerdict (p .settings) (p .meters) (p .readings) (p .cells) a) p (openedParts p a)
 
 -- a call, and how much of each part it is lent
 pub record Item : Type 0 where
@@ -59,7 +69,7 @@ pub record Item : Type 0 where
   pub call : Call
 
 -- the parts cut at their ends to the lengths lent
-unfoldable pub cut : Lengths → Parts → Parts
+abbrev pub cut : Lengths → Parts → Parts
 cut n p =
     record {
       settings = take (n .settings) (p .settings);
@@ -68,20 +78,24 @@ cut n p =
       cells = take (n .cells) (p .cells);
     }
 
--- the parts after a call that was lent them cut: what was cut off is put back unaltered
-unfoldable pub partsAfter : Parts → Item → Parts
-partsAfter p i =
+-- and what was cut off the parts p put back behind those that a call left
+unfoldable pub restored : Lengths → Parts → Parts → Parts
+restored n p after =
     record {
-      settings = p .settings;
-      meters = metersAfter (cut (i .lent) p) (i .call) ++ drop (i .lent .meters) (p .meters);
-      readings = readingsAfter (cut (i .lent) p) (i .call) ++ drop (i .lent .readings) (p .readings);
-      cells = cellsAfter (cut (i .lent) p) (i .call) ++ drop (i .lent .cells) (p .cells);
+      settings = after .settings ++ drop (n .settings) (p .settings);
+      meters = after .meters ++ drop (n .meters) (p .meters);
+      readings = after .readings ++ drop (n .readings) (p .readings);
+      cells = after .cells ++ drop (n .cells) (p .cells);
     }
+
+-- the parts after a call that was lent them cut
+unfoldable pub partsAfter : Parts → Item → Parts
+partsAfter p i = restored (i .lent) p (leaves (cut (i .lent) p) (i .call))
 
 -- the answers to a list of calls, each made on what the one before left
 unfoldable pub answersFrom : {S I A : Type 0} → (S → I → A) → (S → I → S) → S → List I → List A
-answersFrom answers leaves s [] = []
-answersFrom answers leaves s (i ∷ is) = answers s i ∷ answersFrom answers leaves (leaves s i) is
+answersFrom answers after s [] = []
+answersFrom answers after s (i ∷ is) = answers s i ∷ answersFrom answers after (after s i) is
 
 unfoldable pub storeAnswers : Parts → List Item → List Answer
 storeAnswers p items = answersFrom (λ q i. callAnswer (cut (i .lent) q) (i .call)) partsAfter p items
@@ -103,16 +117,6 @@ ledgerAnswers l whole items =
 abbrev pub lengthsOf : Parts → Lengths
 lengthsOf p =
     record { settings = length (p .settings); meters = length (p .meters); readings = length (p .readings); cells = length (p .cells) }
-
--- the parts after an accepted opening
-unfoldable pub openedParts : Parts → Opening → Parts
-openedParts p a =
-    record {
-      settings = openedSettings a (p .settings);
-      meters = openedMeters a (p .meters);
-      readings = openedReadings a (p .readings);
-      cells = openedCells a (p .cells);
-    }
 
 -- a body is made of bytes
 abbrev pub AreBytes : List ℕ → Type 0

@@ -4,37 +4,15 @@ use mathlib.Core.Bool.{Bool, true, false, _&&_, _||_, cond}
 use mathlib.Core.List.{List, [], _∷_, _++_}
 use mathlib.Core.Option.{Option, none, some}
 use lib.Dec.{leb, ltb, eqb}
-use lib.ListN.{length, getD}
+use lib.ListN.{length}
 use Rattle.metering.specs.Sum.{sumBelow}
-use Rattle.metering.specs.Calendar.{periodsPerDay}
-use Rattle.ledger.specs.Method.{Category, categoryAt, ReadingSet, Picture, freshIn, Cell, Day, notRun, ran, cellOn, movedCell, Totals, totalsOn}
+use Rattle.ledger.specs.Method.{Category, ReadingSet, Picture, freshIn, Cell, Day, notRun, ran, cellOn, movedCell, Totals, totalsOn}
 use Rattle.ledger.specs.Net.{activeImport, activeExport, sideOf, Net, netOn}
 use Rattle.ledger.specs.Checks.{Registration, RegistrationCall, ReceptionCall, Verdict, verdict, registered, startOf, inForce, registrationCheck, receptionCheck, readingIn, anyBelow, runCheck, readCheck, totalsInRange, cellInRange, NetCall, resultsShort, mayNet, netCheck}
 use Rattle.ledger.specs.Sizes.{settingsLength, metersLength, readingsLength, cellsLength}
+pub use Rattle.ledger.specs.Opening.{Opening, categories, dates, periods, category, dayType}
 
 -- ---- what it keeps
-
--- an accepted opening: the period duration, M, the category bytes and the day types
-pub record Opening : Type 0 where
-  pub duration : ℕ
-  pub meters : ℕ
-  pub categoryBytes : List ℕ
-  pub dayTypes : List ℕ
-
-abbrev pub categories : Opening → ℕ
-categories o = length (o .categoryBytes) / 8
-
-abbrev pub dates : Opening → ℕ
-dates o = length (o .dayTypes)
-
-abbrev pub periods : Opening → ℕ
-periods o = periodsPerDay (o .duration)
-
-abbrev pub category : Opening → ℕ → Category
-category o c = categoryAt (o .categoryBytes) c
-
-abbrev pub dayType : Opening → ℕ → ℕ
-dayType o d = getD (o .dayTypes) d 0
 
 -- a known meter: its registrations in the order in which they came, and the set held for each date, if any
 pub record Meter : Type 0 where
@@ -85,6 +63,16 @@ pub record Lengths : Type 0 where
   pub meters : ℕ
   pub readings : ℕ
   pub cells : ℕ
+
+-- the least that an opening asks of each
+abbrev pub leastLengths : Opening → Lengths
+leastLengths o =
+    record {
+      settings = settingsLength (categories o) (dates o);
+      meters = metersLength (o .meters);
+      readings = readingsLength (o .meters) (dates o) (periods o);
+      cells = cellsLength (categories o) (dates o) (periods o);
+    }
 
 unfoldable pub settingsShort : Opening → Lengths → Bool
 settingsShort o n = ltb (n .settings) (settingsLength (categories o) (dates o))

@@ -2,6 +2,7 @@
 pub mod Method
 pub mod Table
 pub mod Net
+pub mod Opening
 pub mod Checks
 pub mod Sizes
 pub mod Ledger

@@ -2,7 +2,7 @@
 -- that document; "house" marks a rule that the paper adds or puts in place of METH005's.
 -- Dates count from 0, categories from 0, periods from 1.
 use Prim.Native.Nat.{ℕ, zero, suc, _+_, _-_, _*_}
-use mathlib.Core.Bool.{Bool, _&&_, cond}
+use mathlib.Core.Bool.{Bool, true, false, _&&_, cond}
 use mathlib.Core.List.{List, [], _∷_}
 use mathlib.Core.Option.{Option, none, some}
 use lib.Dec.{leb, eqb}
@@ -79,18 +79,19 @@ pub data Fresh : Type 0 where
   own : ℕ → ℕ → Fresh
   pooled : ℕ → ℕ → Fresh
 
--- s and n over the category, S and K over the family: own where n ≥ 1 and n reaches de-minimis (000, 5.1 and 9.1), else pooled where
--- the category is Smart, K ≥ 1 and K reaches the same de-minimis (000, 6.1). Averages are whole Wh, halves up (house).
-unfoldable pub freshOf : Category → ℕ → ℕ → ℕ → ℕ → Fresh
-freshOf a s n S K =
-    cond (leb 1 n && leb (a .deMinimis) n)
-    (own (average s n) n)
-    (cond (isSmart a && leb 1 K && leb (a .deMinimis) K) (pooled (average S K) K) absent)
+-- a count that gives a shape: at least one reading, and it reaches the de-minimis m
+unfoldable pub isEnough : ℕ → ℕ → Bool
+isEnough n m = leb 1 n && leb m n
+
+-- s and n over the category, S and K over the family, m the category's de-minimis: own where n is enough (000, 5.1 and 9.1), else pooled
+-- where the category is Smart and K is enough by the same m (000, 6.1). Averages are whole Wh, halves up (house).
+unfoldable pub freshOf : Bool → ℕ → ℕ → ℕ → ℕ → ℕ → Fresh
+freshOf smart m s n S K = cond (isEnough n m) (own (average s n) n) (cond (smart && isEnough K m) (pooled (average S K) K) absent)
 
 -- the same from a picture; S is over single readings, never over regional averages
 unfoldable pub freshIn : (ℕ → Category) → Picture → ℕ → ℕ → Fresh
 freshIn category picture c j =
-    freshOf (category c)
+    freshOf (isSmart (category c)) (category c .deMinimis)
     (total wattHours (eqb c) picture j)
     (total present (eqb c) picture j)
     (total wattHours (λ b. sameFamily (category c) (category b)) picture j)
@@ -111,6 +112,17 @@ pub record Cell : Type 0 where
 unfoldable pub blank : Cell
 blank = record { flag = N; value = 0; count = 0; origin = 65535 }
 
+-- the cells that date d's own readings give: its category's average under flag A (000, 5.1), its family's under flag D (000, 6.1)
+abbrev pub ownCell : ℕ → ℕ → ℕ → Cell
+ownCell d v n = record { flag = A; value = v; count = n; origin = d }
+
+abbrev pub pooledCell : ℕ → ℕ → ℕ → Cell
+pooledCell d v k = record { flag = D; value = v; count = k; origin = d }
+
+-- whether a cell is its date's own shape: flag A or D
+unfoldable pub isOwnCell : Cell → Bool
+isOwnCell a = elim (a .flag) [ A ↦ true | D ↦ true | E ↦ false | N ↦ false ]
+
 -- what a later date without a shape of its own takes over: value, count and origin under flag E (000, 7.1 and 7.3), and nothing from nothing
 unfoldable pub carried : Cell → Cell
 unfolding blank
@@ -124,8 +136,8 @@ carried a = elim (a .flag) [
 -- the cell of a run date d, from its own shape and the cell of its predecessor
 unfoldable pub cellFrom : ℕ → Fresh → Cell → Cell
 cellFrom d absent before = carried before
-cellFrom d (own v n) before = record { flag = A; value = v; count = n; origin = d }
-cellFrom d (pooled v k) before = record { flag = D; value = v; count = k; origin = d }
+cellFrom d (own v n) before = ownCell d v n
+cellFrom d (pooled v k) before = pooledCell d v k
 
 -- a date as one category and period sees it: not run, or run with its own shape
 pub data Day : Type 0 where

@@ -1,11 +1,11 @@
 -- The net shape of import and export (change request 2026-13): for each period the values of import cells less those of export cells.
 -- A net is a signed number, an integer of `lib.IntN`; the sums on its two sides are natural numbers.
 use Prim.Native.Nat.{ℕ, zero, suc, _+_, _-_}
-use mathlib.Core.Bool.{Bool, true, false, _&&_, _||_, cond}
+use mathlib.Core.Bool.{Bool, false, _&&_, _||_, cond}
 use mathlib.Core.List.{List, [], _∷_, _++_}
 use lib.Dec.{leb, eqb}
 use lib.IntN.{ℤ, pos, _+ℤ_, _-ℤ_}
-use Rattle.ledger.specs.Method.{Category, sameFamily, Flag, A, D, E, N, Cell}
+use Rattle.ledger.specs.Method.{Category, sameFamily, Flag, isBlank, Cell}
 use Rattle.ledger.specs.Table.{tabulate}
 
 -- ---- which categories are summed
@@ -61,10 +61,7 @@ signedSum zero f = pos 0
 signedSum (suc n) f = signedSum n f +ℤ f n
 
 abbrev pub isN : Flag → Bool
-isN A = false
-isN D = false
-isN E = false
-isN N = true
+isN f = eqb (isBlank f) 1
 
 -- ---- the net of two lists of categories
 

@@ -11,7 +11,7 @@ use borrow.Author.Tests.{leb-true}
 use Rattle.metering.specs.Range.{between, metersInRange, categoriesInRange, datesInRange}
 use Rattle.metering.specs.Calendar.{periodsPerDay}
 use Rattle.metering.specs.Laws.{duration-is}
-use Rattle.ledger.specs.Sizes.{settingsLength}
+use Rattle.ledger.specs.Sizes.{headerLength, settingsLength}
 use Rattle.ledger.specs.Store.{durationOf, metersOf, categoriesOf, datesOf, periodsOf, isOpened, settingsReady}
 
 pub both : (a b : Bool) → (a && b) ≡ true → (a ≡ true) × (b ≡ true)
@@ -22,7 +22,7 @@ pub record Ready (s : List ℕ) : Type 0 where
   pub meters : (1 ≤ metersOf s) × (metersOf s ≤ 1024)
   pub categories : (1 ≤ categoriesOf s) × (categoriesOf s ≤ 64)
   pub dates : (1 ≤ datesOf s) × (datesOf s ≤ 800)
-  pub long : 8 + 8 * categoriesOf s + datesOf s ≤ length s
+  pub long : headerLength + 8 * categoriesOf s + datesOf s ≤ length s
 
 in-range : (low high x : ℕ) → between low high x ≡ true → (low ≤ x) × (x ≤ high)
 unfolding between

@@ -1,9 +1,13 @@
 -- The least length of each lent part of the store, in M meters, C categories, T dates and P periods.
 use Prim.Native.Nat.{ℕ, _+_, _*_}
 
--- four numbers of two bytes, eight bytes a category record, one byte a day type
+-- the settings' header: four numbers of two bytes
+abbrev pub headerLength : ℕ
+headerLength = 8
+
+-- the header, eight bytes a category record, one byte a day type
 unfoldable pub settingsLength : ℕ → ℕ → ℕ
-settingsLength C T = 8 + 8 * C + T
+settingsLength C T = headerLength + 8 * C + T
 
 -- an MPAN a meter, then eight registrations of five entries a meter
 unfoldable pub metersLength : ℕ → ℕ

@@ -1,7 +1,7 @@
 -- The store's layout: how each thing is read off the lent parts, whatever lists they are, and how it is written there.
 use Prim.Native.Nat.{ℕ, zero, suc, _+_, _-_, _*_, _/_, _%_}
 use mathlib.Core.Bool.{Bool, not, _&&_, _||_, cond}
-use mathlib.Core.List.{List, [], _∷_}
+use mathlib.Core.List.{List, [], _∷_, _++_}
 use mathlib.Core.Option.{Option, none, some}
 use lib.Dec.{leb, ltb, eqb}
 use lib.ListN.{length, getD, set, drop}
@@ -9,16 +9,21 @@ use lib.Seq.{sets}
 use Rattle.metering.specs.Range.{metersInRange, categoriesInRange, datesInRange}
 use Rattle.metering.specs.Calendar.{durationKnown, periodsPerDay}
 use Rattle.ledger.specs.Method.{Category, categoryAt, Flag, A, D, E, N, flagNumber, Cell}
+use Rattle.ledger.specs.Opening.{Opening, categories, dates}
 use Rattle.ledger.specs.Checks.{Registration}
-use Rattle.ledger.specs.Sizes.{settingsLength, metersLength, readingsLength, cellsLength}
+use Rattle.ledger.specs.Sizes.{headerLength, settingsLength, metersLength, readingsLength, cellsLength}
 
--- ---- settings: duration, M, C and T, two bytes each, big-endian; the category records; the day types
+-- ---- settings: the header, which is duration, M, C and T, two bytes each, big-endian; the category records; the day types
 
 unfoldable pub word : List ℕ → ℕ → ℕ
 word s k = 256 * getD s (2 * k) 0 + getD s (2 * k + 1) 0
 
 unfoldable pub wordBytes : ℕ → List ℕ
 wordBytes n = n / 256 ∷ n % 256 ∷ []
+
+-- the header that an opening writes; below, how each of its numbers is read
+unfoldable pub headerBytes : Opening → List ℕ
+headerBytes a = wordBytes (a .duration) ++ wordBytes (a .meters) ++ wordBytes (categories a) ++ wordBytes (dates a)
 
 unfoldable pub durationOf : List ℕ → ℕ
 durationOf s = word s 0
@@ -40,10 +45,10 @@ unfoldable pub rowLength : List ℕ → ℕ
 rowLength s = categoriesOf s * periodsOf s
 
 unfoldable pub categoryOf : List ℕ → ℕ → Category
-categoryOf s c = categoryAt (drop 8 s) c
+categoryOf s c = categoryAt (drop headerLength s) c
 
 unfoldable pub dayTypeOf : List ℕ → ℕ → ℕ
-dayTypeOf s d = getD s (8 + 8 * categoriesOf s + d) 0
+dayTypeOf s d = getD s (headerLength + 8 * categoriesOf s + d) 0
 
 -- unopened: the kept duration, M, C or T is out of range
 unfoldable pub isOpened : List ℕ → Bool
@@ -124,7 +129,8 @@ readingOf e = cond (eqb (e / 4294967296 % 2) 1) (some (e % 4294967296)) none
 unfoldable pub readingAt : ℕ → ℕ → List ℕ → ℕ → ℕ → ℕ → Option ℕ
 readingAt M P readings d i j = readingOf (getD readings (setIndex M P d i + j) 0)
 
--- ---- cells: for each date, category and period an entry, flag + 8 count + 2 ^ 16 origin + 2 ^ 32 value; 0 on a date not run
+-- ---- cells: for each date, category and period an entry, flag + 8 count + 2 ^ 16 origin + 2 ^ 32 value; 0 on a date not run.
+-- `entryOf` puts and `cellOfEntry` reads; what else is done with an entry is said by these.
 
 unfoldable pub entryOf : Cell → ℕ
 entryOf a = flagNumber (a .flag) + 8 * a .count + 65536 * a .origin + 4294967296 * a .value

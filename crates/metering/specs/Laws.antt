@@ -1,6 +1,6 @@
 -- Laws of the definitions, for the layers above: what they may use without opening a definition.
 use Prim.Native.Nat.{ℕ, _+_, _*_, _%_, _-_, _≤_, _<_}
-use mathlib.Core.Path.{_≡_, refl, sym, _∙_}
+use mathlib.Core.Path.{_≡_, sym, _∙_}
 use mathlib.Core.Logic.{_↔_, _≢_, _⊎_, inl, inr, ⊎-elim}
 use mathlib.Core.Bool.{Bool, true, false, not, _&&_, and-eq-true-iff}
 use native.Mathlib.Nat.{mul-div-le, lt-mul-div-succ, div-eq-of-lt-le, div-lt-iff-lt-mul, div-one, div-add-mod', div-mul-le-self, le-div-iff-mul-le, le-trans, add-zero, mul-pos, mul-mod-left, mul-div-cancel, le-of-mul-le-mul-right, mul-le-mul-left, mul-le-mul-right}
@@ -12,7 +12,7 @@ use borrow.Author.Tests.{leb-true, le-leb, lt-leb, eqb-true, not-true, not-false
 use Rattle.metering.specs.Average.{average, annual}
 use Rattle.metering.specs.Calendar.{durationKnown, periodsPerDay, periodEnding, liesWithin, windowStart, windowEnd}
 use Rattle.metering.specs.Sum.{sumBelow, sumBelow-le}
-use Rattle.metering.specs.Mpan.{weights, digit, product, weightedSum, checkDigit, mpanValid}
+use Rattle.metering.specs.Mpan.{weights, digit, product, weightedSum, mpanValid}
 use Rattle.metering.specs.Range.{between}
 
 -- what a call answered, and the negated test on it
@@ -53,10 +53,6 @@ average-le s n b h k =
     let less : average s n < b + 1 = div-lt-iff-lt-mul {k = 2 * n} {x = 2 * s + n} {y = b + 1} (omega arith) .1 (omega arith) in
     omega arith
 
-pub annual-365 : (s : ℕ) → annual s 365 ≡ s
-unfolding annual
-annual-365 s = refl
-
 -- the rule for 365 days is no exception: there the product divides out
 pub annual-is : (s d : ℕ) → 0 < d → annual s d ≡ average (s * 365) d
 unfolding annual
@@ -81,10 +77,6 @@ unfolding weightedSum sumBelow product weights
 weightedSum-le n =
     sumBelow-le 12 (product n) (λ i. getD weights i 0 * 9) (λ i. mul-le-mul-left (getD weights i 0) (digit-le n i))
 
-pub checkDigit-lt-10 : (n : ℕ) → checkDigit n < 10
-unfolding checkDigit
-checkDigit-lt-10 n = omega arith
-
 pub mpanValid-bounds : (n : ℕ) → mpanValid n ≡ true → (0 < n) × (n ≤ 9999999999999)
 unfolding mpanValid
 mpanValid-bounds n e = both-leb 1 n n 9999999999999 .0 (and-eq-true-iff _ _ .0 e .0)
@@ -98,14 +90,6 @@ duration-is d e =
 
 pub duration-pos : (d : ℕ) → durationKnown d ≡ true → 0 < d
 duration-pos d e = ⊎-elim (λ h. omega arith) (λ h. omega arith) (duration-is d e)
-
-pub periodsPerDay-15 : periodsPerDay 15 ≡ 96
-unfolding periodsPerDay
-periodsPerDay-15 = refl
-
-pub periodsPerDay-30 : periodsPerDay 30 ≡ 48
-unfolding periodsPerDay
-periodsPerDay-30 = refl
 
 pub periodsPerDay-times : (d : ℕ) → durationKnown d ≡ true → periodsPerDay d * d ≡ 1440
 unfolding periodsPerDay

@@ -1,11 +1,11 @@
 -- The checks of a net read: what holds where they pass, and which number they give.
 use Prim.Native.Nat.{ℕ, _≤_, _<_}
-use mathlib.Core.Path.{_≡_, refl, sym, _∙_}
+use mathlib.Core.Path.{_≡_, sym, _∙_}
 use mathlib.Core.Bool.{Bool, true, false, not, _||_, cond, and-eq-true-iff}
 use mathlib.Core.List.{List}
 use native.Mathlib.Omega.{arith}
 use borrow.Author.Tests.{leb-false, ltb-true, ltb-false, not-false}
-use lib.Dec.{leb, eqb}
+use lib.Dec.{leb}
 use Rattle.ledger.specs.Checks.{resultsShort, totalsInRange, netCheck}
 use Rattle.ledger.specs.Store.{categoriesOf, datesOf, periodsOf, rowLength, settingsReady, cellsReady, isRunAt}
 use Rattle.ledger.specs.Calls.{cellsUnready}
@@ -28,23 +28,6 @@ module _ (settings cells : List ℕ) (numbers marks : ℕ) where
       let lists = neither _ _ (both .1) in
       record { opened = parts .0; complete = parts .1; numbers-long = ltb-false _ _ (lists .0); marks-long = ltb-false _ _ (lists .1) }
 
-  -- the number 1, or none
-  pub not-short : (n : ℕ) → n ≡ cond (cellsUnready settings cells || resultsShort (periodsOf settings) numbers marks) 1 0 → n ≡ 0 →
-      (cellsUnready settings cells || resultsShort (periodsOf settings) numbers marks) ≡ false
-  not-short n e z = none (cellsUnready settings cells || resultsShort (periodsOf settings) numbers marks) (sym e ∙ z)
-    where
-      none : (b : Bool) → _≡_ {A = ℕ} (cond b 1 0) 0 → b ≡ false
-      none true e = absurd (omega arith)
-      none false e = refl
-
-  pub some-short : (n rest : ℕ) → n ≡ cond (cellsUnready settings cells || resultsShort (periodsOf settings) numbers marks) 1 0 → (n ≡ 0 → ⊥) →
-      n ≡ cond (cellsUnready settings cells || resultsShort (periodsOf settings) numbers marks) 1 rest
-  some-short n rest e some = one (cellsUnready settings cells || resultsShort (periodsOf settings) numbers marks) e
-    where
-      one : (b : Bool) → n ≡ cond b 1 0 → n ≡ cond b 1 rest
-      one true e = e
-      one false e = absurd (some e)
-
   abbrev pub rangeNumber : ℕ → ℕ → ℕ
   rangeNumber date category =
       cond (cellsUnready settings cells || resultsShort (periodsOf settings) numbers marks) 1
@@ -60,15 +43,6 @@ module _ (settings cells : List ℕ) (numbers marks : ℕ) where
       (long (p1 .0), leb-false _ _ (p9 .0), ltb-true _ _ (not-false _ (p15 .0)))
 
 module _ (settings cells : List ℕ) (date category exports : ℕ) where
-  -- 26 before 14
-  pub partner-first : (p r n : ℕ) → p ≡ cond (not (pairedWith settings category exports)) 26 0 → r ≡ cond (not (isRunAt (rowLength settings) cells date)) 14 0 →
-      n ≡ cond (eqb p 0) r p → n ≡ cond (not (pairedWith settings category exports)) 26 (cond (not (isRunAt (rowLength settings) cells date)) 14 0)
-  partner-first p r n a b e = first (pairedWith settings category exports) a
-    where
-      first : (paired : Bool) → p ≡ cond (not paired) 26 0 → n ≡ cond (not paired) 26 (cond (not (isRunAt (rowLength settings) cells date)) 14 0)
-      first true a = e ∙ rw (a, b)
-      first false a = e ∙ rw a
-
   -- where 14 is not given the date is run
   pub pair-passed : (m : ℕ) → m ≡ cond (not (pairedWith settings category exports)) 26 (cond (not (isRunAt (rowLength settings) cells date)) 14 0) → m ≡ 0 → isRunAt (rowLength settings) cells date ≡ true
   pair-passed m is e = not-false _ (check-passed (not (isRunAt (rowLength settings) cells date)) 13 0 (check-passed (not (pairedWith settings category exports)) 25 _ (sym is ∙ e) .1) .0)

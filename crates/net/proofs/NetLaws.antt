@@ -1,5 +1,5 @@
 -- The sums that the code takes are those of the net.
-use Prim.Native.Nat.{ℕ, zero, suc, _+_, _-_, _*_, _≤_}
+use Prim.Native.Nat.{ℕ, zero, suc, _+_, _-_, _≤_}
 use mathlib.Core.Path.{_≡_, refl, sym, ap, ap₂, _∙_}
 use mathlib.Core.Bool.{Bool, true, false, _&&_, cond}
 use mathlib.Core.List.{List, [], _∷_, _++_}
@@ -9,18 +9,18 @@ use borrow.Table.Steps.{cases}
 use borrow.Author.Tests.{ne-eqb, le-leb, lt-leb, leb-true, leb-false}
 use lib.Dec.{leb, eqb}
 use lib.IntN.{ℤ, pos, _-ℤ_}
-use lib.ListN.{length, getD}
 use Rattle.metering.specs.Sum.{sumBelow, sumBelow-zero, sumBelow-suc}
-use Rattle.ledger.specs.Method.{Flag, A, D, E, N, isBlank, overRunDates}
+use Rattle.ledger.specs.Method.{Flag, A, D, E, N, Cell, isBlank, overRunDates}
 use Rattle.ledger.specs.Table.{tabulate, filling}
-use Rattle.ledger.specs.Net.{sumOver, anyOf, isN, Net, netPeriod, markOf, netTot, netTot7, netOn}
-use Rattle.ledger.specs.Store.{categoriesOf, periodsOf, rowLength, cellOfEntry, cellIndex, isRunAt}
+use Rattle.ledger.specs.Net.{sumOver, anyOf, isN, netPeriod, markOf, netTot, netTot7, netOn}
+use Rattle.ledger.specs.Store.{periodsOf, rowLength, isRunAt}
 use Rattle.ledger.specs.Calls.{cellFor, overwritten}
-use Rattle.ledger.proofs.Lists.{length-tabulate, tabulate-ext, sumBelow-more, sumBelow-none, sumBelow-cong, block-below}
+use Rattle.ledger.proofs.Lists.{length-tabulate, tabulate-ext, sumBelow-more, sumBelow-none, sumBelow-cong}
 use Rattle.ledger.proofs.Nets.{signed-minus, sumOver-append, sumOver-alike, sumOver-plus, sum-exchange, totOf, tot7-minus}
+use Rattle.store.specs.declared.column.Column.{Column}
+use Rattle.store.specs.Column.{columnOf, beside, cellIn, runIn}
 use Rattle.reads.specs.Sums.{Summed}
-use Rattle.reads.proofs.SumLaws.{sum-alike}
-use Rattle.net.specs.Walk.{Among, RowReach, SummedFirst, DayWritten, NetWritten, cellBeyond, sideValue, sideBlanks, periodNet, periodMark, earlierTot}
+use Rattle.net.specs.Walk.{SummedFirst, DayWritten, NetWritten, sideValue, periodNet, periodMark, earlierTot, netIn}
 
 -- ---- marks
 
@@ -67,7 +67,7 @@ over-first isRun n f d e = rw (sumBelow-more 1 n, sumBelow-suc, sumBelow-zero, l
 pub day-small : {n r : ℕ} {f : ℕ → ℕ} → Summed n 274877906880 f r → n ≤ 96 → r ≤ 26388279060480
 day-small s low = omega (arith, s .small)
 
-pub week-small : {members : List ℕ} {n r : ℕ} {f : ℕ → ℕ} → SummedFirst members n 150495654016800 f r → n ≤ 64 → r ≤ 9631721857075200
+pub week-small : {members : List ℕ} {n r : ℕ} {f : ℕ → ℕ} → SummedFirst members n 2473901161920 f r → n ≤ 64 → r ≤ 158329674362880
 week-small s low = omega (arith, s .small)
 
 -- ---- the lists that are written
@@ -78,85 +78,69 @@ written-is n f g xs ys e same = e ∙ rw (length-tabulate n g, tabulate-ext n f 
 
 -- ---- the net of a date
 
-module _ (s cells : List ℕ) (d : ℕ) where
-  cell-is : (k c : ℕ) → cellBeyond cells (d * (categoriesOf s * periodsOf s) + k) (periodsOf s) c ≡ cellFor s cells d c (suc k)
-  unfolding cellFor cellIndex
-  cell-is k c = ap (λ i. cellOfEntry (getD cells i 0)) (omega arith)
-
-  value-is : (side : List ℕ) (k : ℕ) → sideValue cells (d * (categoriesOf s * periodsOf s)) (periodsOf s) side k ≡ sumOver side (λ c. cellFor s cells d c (suc k) .value)
-  value-is side k = sumOver-alike side (λ c. ap (λ a. a .value) (cell-is k c))
-
-  blanks-are : (side : List ℕ) (k : ℕ) → sideBlanks cells (d * (categoriesOf s * periodsOf s)) (periodsOf s) side k ≡ sumOver side (λ c. isBlank (cellFor s cells d c (suc k) .flag))
-  blanks-are side k = sumOver-alike side (λ c. ap (λ a. isBlank (a .flag)) (cell-is k c))
-
-  -- the rows of a side's categories are within the part
-  pub row-reach : (members : List ℕ) (count : ℕ) → Among (categoriesOf s) members count →
-      d * (categoriesOf s * periodsOf s) + categoriesOf s * periodsOf s ≤ length cells →
-      RowReach cells (d * (categoriesOf s * periodsOf s)) (periodsOf s) members count
-  row-reach members count a fits =
-      record {
-        few = a .few;
-        within = a .within;
-        cell = λ k i hk hi. omega (arith, fits, block-below (periodsOf s) (categoriesOf s) (getD members i 0) k (a .each i hi) hk);
-      }
-
-  module _ (imports exports : List ℕ) where
-    net-is : (k : ℕ) → periodNet cells (d * (categoriesOf s * periodsOf s)) (periodsOf s) imports exports k
-        ≡ netPeriod (periodsOf s) (isRunAt (rowLength s) cells) (cellFor s cells) imports exports d (suc k)
-    unfolding netPeriod
-    net-is k = ap₂ (λ x y. pos x -ℤ pos y) (value-is imports k) (value-is exports k)
-
-    mark-is : (k : ℕ) → periodMark cells (d * (categoriesOf s * periodsOf s)) (periodsOf s) imports exports k
-        ≡ markOf (periodsOf s) (isRunAt (rowLength s) cells) (cellFor s cells) imports exports d (suc k)
-    unfolding markOf
-    mark-is k =
-        rw (blanks-are imports k, blanks-are exports k, ← (sumOver-append imports exports (λ c. isBlank (cellFor s cells d c (suc k) .flag))))
-        (any-blank (imports ++ exports) (λ c. cellFor s cells d c (suc k) .flag))
-
-    day-is : (import export : ℕ) →
-        import ≡ sumBelow (periodsOf s) (sideValue cells (d * (categoriesOf s * periodsOf s)) (periodsOf s) imports) →
-        export ≡ sumBelow (periodsOf s) (sideValue cells (d * (categoriesOf s * periodsOf s)) (periodsOf s) exports) →
-        pos import -ℤ pos export ≡ netTot (periodsOf s) (isRunAt (rowLength s) cells) (cellFor s cells) imports exports d
-    unfolding netTot netPeriod
-    day-is import export i e =
-        rw (i, e, sum-alike (periodsOf s) (value-is imports), sum-alike (periodsOf s) (value-is exports))
-        (sym (signed-minus (periodsOf s) (λ k. sumOver imports (λ c. cellFor s cells d c (suc k) .value)) (λ k. sumOver exports (λ c. cellFor s cells d c (suc k) .value))))
+module _ (cells : List ℕ) (column : Column) (d : ℕ) where
+  abbrev cell : ℕ → ℕ → ℕ → Cell
+  cell x c j = cellIn (beside column c) cells x j
 
   -- TOT7 of a side: the date's own sum, and that of the dates before it
-  side-week : (side : List ℕ) (day earlier : ℕ) → isRunAt (rowLength s) cells d ≡ true →
-      day ≡ sumBelow (periodsOf s) (sideValue cells (d * (categoriesOf s * periodsOf s)) (periodsOf s) side) →
-      earlier ≡ sumOver side (earlierTot cells (categoriesOf s) (periodsOf s) d) →
-      day + earlier ≡ sumOver side (λ c. overRunDates (isRunAt (rowLength s) cells) 7 (totOf (periodsOf s) (cellFor s cells) c) d)
-  unfolding rowLength cellFor
+  side-week : (side : List ℕ) (day earlier : ℕ) → runIn column cells d ≡ true →
+      day ≡ sumBelow (column .periods) (sideValue cells column d side) →
+      earlier ≡ sumOver side (earlierTot cells column d) →
+      day + earlier ≡ sumOver side (λ c. overRunDates (runIn column cells) 7 (totOf (column .periods) cell c) d)
   side-week side day earlier r a b =
-      rw (a, b, sum-alike (periodsOf s) (value-is side), sum-exchange (periodsOf s) side (λ k c. cellFor s cells d c (suc k) .value))
+      rw (a, b, sum-exchange (column .periods) side (λ k c. cell d c (suc k) .value))
       (sym (sumOver-plus side _ _)
-      ∙ sumOver-alike side (λ c. over-first (isRunAt (rowLength s) cells) 6 (totOf (periodsOf s) (cellFor s cells) c) d r))
+      ∙ sumOver-alike side (λ c. over-first (runIn column cells) 6 (totOf (column .periods) cell c) d r))
 
   module _ (imports exports : List ℕ) where
-    week-is : (import export import-before export-before : ℕ) → isRunAt (rowLength s) cells d ≡ true →
-        import ≡ sumBelow (periodsOf s) (sideValue cells (d * (categoriesOf s * periodsOf s)) (periodsOf s) imports) →
-        export ≡ sumBelow (periodsOf s) (sideValue cells (d * (categoriesOf s * periodsOf s)) (periodsOf s) exports) →
-        import-before ≡ sumOver imports (earlierTot cells (categoriesOf s) (periodsOf s) d) →
-        export-before ≡ sumOver exports (earlierTot cells (categoriesOf s) (periodsOf s) d) →
-        pos (import + import-before) -ℤ pos (export + export-before) ≡ netTot7 (periodsOf s) (isRunAt (rowLength s) cells) (cellFor s cells) imports exports d
+    mark-is : (k : ℕ) → periodMark cells column d imports exports k ≡ markOf (column .periods) (runIn column cells) cell imports exports d (suc k)
+    unfolding markOf
+    mark-is k =
+        rw (← (sumOver-append imports exports (λ c. isBlank (cell d c (suc k) .flag))))
+        (any-blank (imports ++ exports) (λ c. cell d c (suc k) .flag))
+
+    net-is : (k : ℕ) → periodNet cells column d imports exports k ≡ netPeriod (column .periods) (runIn column cells) cell imports exports d (suc k)
+    unfolding netPeriod
+    net-is k = refl
+
+    day-is : (import export : ℕ) →
+        import ≡ sumBelow (column .periods) (sideValue cells column d imports) →
+        export ≡ sumBelow (column .periods) (sideValue cells column d exports) →
+        pos import -ℤ pos export ≡ netTot (column .periods) (runIn column cells) cell imports exports d
+    unfolding netTot netPeriod
+    day-is import export i e = rw (i, e) (sym (signed-minus (column .periods) (sideValue cells column d imports) (sideValue cells column d exports)))
+
+    week-is : (import export import-before export-before : ℕ) → runIn column cells d ≡ true →
+        import ≡ sumBelow (column .periods) (sideValue cells column d imports) →
+        export ≡ sumBelow (column .periods) (sideValue cells column d exports) →
+        import-before ≡ sumOver imports (earlierTot cells column d) →
+        export-before ≡ sumOver exports (earlierTot cells column d) →
+        pos (import + import-before) -ℤ pos (export + export-before) ≡ netTot7 (column .periods) (runIn column cells) cell imports exports d
     week-is import export import-before export-before r i e b o =
         ap₂ (λ x y. pos x -ℤ pos y) (side-week imports import import-before r i b) (side-week exports export export-before r e o)
-        ∙ sym (tot7-minus (periodsOf s) (isRunAt (rowLength s) cells) (cellFor s cells) imports exports d)
+        ∙ sym (tot7-minus (column .periods) (runIn column cells) cell imports exports d)
 
     -- so what was written and summed is the net
-    pub net-written : (numbers numbers′ : List ℤ) (marks marks′ : List ℕ) (import export import-before export-before : ℕ) (tot tot7 : ℤ) → isRunAt (rowLength s) cells d ≡ true →
-        DayWritten cells (d * (categoriesOf s * periodsOf s)) (periodsOf s) imports exports numbers numbers′ marks marks′ import export →
-        import-before ≡ sumOver imports (earlierTot cells (categoriesOf s) (periodsOf s) d) →
-        export-before ≡ sumOver exports (earlierTot cells (categoriesOf s) (periodsOf s) d) →
+    pub net-written : (numbers numbers′ : List ℤ) (marks marks′ : List ℕ) (import export import-before export-before : ℕ) (tot tot7 : ℤ) → runIn column cells d ≡ true →
+        DayWritten cells column d imports exports numbers numbers′ marks marks′ import export →
+        import-before ≡ sumOver imports (earlierTot cells column d) →
+        export-before ≡ sumOver exports (earlierTot cells column d) →
         tot ≡ pos import -ℤ pos export →
         tot7 ≡ pos (import + import-before) -ℤ pos (export + export-before) →
-        NetWritten (netOn (periodsOf s) (isRunAt (rowLength s) cells) (cellFor s cells) imports exports d) tot tot7 numbers numbers′ marks marks′
+        NetWritten (netIn column cells imports exports d) tot tot7 numbers numbers′ marks marks′
     unfolding netOn
     net-written numbers numbers′ marks marks′ import export import-before export-before tot tot7 r day b o t t7 =
         record {
-          day = t ∙ day-is imports exports import export (day .imported .is) (day .exported .is);
+          day = t ∙ day-is import export (day .imported .is) (day .exported .is);
           week = t7 ∙ week-is import export import-before export-before r (day .imported .is) (day .exported .is) b o;
-          nets-are = written-is (periodsOf s) _ _ numbers numbers′ (day .nets-are) (net-is imports exports);
-          marks-are = written-is (periodsOf s) _ _ marks marks′ (day .marks-are) (mark-is imports exports);
+          nets-are = written-is (column .periods) _ _ numbers numbers′ (day .nets-are) net-is;
+          marks-are = written-is (column .periods) _ _ marks marks′ (day .marks-are) mark-is;
         }
+
+-- ---- the column that the settings name
+
+pub net-asked : (s cells : List ℕ) (c d : ℕ) {column : Column} (imports exports : List ℕ) {tot tot7 : ℤ} {numbers numbers′ : List ℤ} {marks marks′ : List ℕ} →
+    column ≡ columnOf s c → NetWritten (netIn column cells imports exports d) tot tot7 numbers numbers′ marks marks′ →
+    NetWritten (netOn (periodsOf s) (isRunAt (rowLength s) cells) (cellFor s cells) imports exports d) tot tot7 numbers numbers′ marks marks′
+unfolding rowLength cellFor
+net-asked s cells c d imports exports e w = rw e at w

@@ -1,5 +1,5 @@
 -- What a net read answers and leaves, where a check fails and where none does.
-use Prim.Native.Nat.{ℕ, zero, suc, _<_}
+use Prim.Native.Nat.{ℕ, zero, suc, _≤_, _<_}
 use mathlib.Core.Path.{_≡_, refl, ap, _∙_}
 use mathlib.Core.Bool.{Bool, not, cond}
 use mathlib.Core.List.{List, [], _∷_}
@@ -17,9 +17,13 @@ use Rattle.ledger.specs.Engine.{Every}
 use Rattle.ledger.proofs.Lists.{length-tabulate}
 use Rattle.ledger.proofs.Nets.{chosen-below}
 use Rattle.ledger.proofs.Verdicts.{refused-is, kept-is, given-is, after-is}
+use Rattle.store.specs.declared.column.Column.{Column}
+use Rattle.store.specs.Column.{columnOf}
+use Rattle.reads.specs.ReadAccepted.{ReadAccepted}
+use Rattle.reads.proofs.CheckLaws.{passed-reaches, passed-run}
 use Rattle.net.specs.Asked.{netCall}
 use Rattle.net.specs.Sides.{Listed, pairedWith}
-use Rattle.net.specs.Walk.{Among, NetWritten}
+use Rattle.net.specs.Walk.{Among, MayWrite, NetWritten}
 use Rattle.net.proofs.SideLaws.{found-count}
 use Rattle.net.proofs.CheckLaws.{rangeNumber, range-decides, pair-decides}
 
@@ -35,7 +39,7 @@ unfolding sideFor sideOf
 side-low s allGroups quantity c = chosen-below (categoriesOf s) _
 
 -- those found are among the categories that there are
-pub found-among : (s : List ℕ) (allGroups : Bool) (quantity c : ℕ) (found : List ℕ) (count : ℕ) → Listed (sideFor s allGroups quantity c) found count → Among (categoriesOf s) found count
+found-among : (s : List ℕ) (allGroups : Bool) (quantity c : ℕ) (found : List ℕ) (count : ℕ) → Listed (sideFor s allGroups quantity c) found count → Among (categoriesOf s) found count
 found-among s allGroups quantity c found count l =
     record {
       few = l .few;
@@ -45,6 +49,22 @@ found-among s allGroups quantity c found count l =
           rw (← (getD-take count found i 0 h), l .are)
           (every-at (λ b. b < categoriesOf s) (sideFor s allGroups quantity c) i (side-low s allGroups quantity c) (let e = found-count l in omega arith));
     }
+
+-- all that is known where no check fails
+pub may-write :
+    (s cells : List ℕ) (allGroups : Bool) (date category : ℕ) {column : Column} {imports exports : List ℕ} {importCount exportCount numbers marks : ℕ} →
+    column ≡ columnOf s category → ReadAccepted s cells date category →
+    Listed (sideFor s allGroups activeImport category) imports importCount → Listed (sideFor s allGroups activeExport category) exports exportCount →
+    periodsOf s ≤ numbers → periodsOf s ≤ marks → MayWrite cells column date imports importCount exports exportCount numbers marks
+may-write s cells allGroups date category e p i x n m =
+    rw e (record {
+      reaches = passed-reaches s cells date category refl p;
+      run = passed-run s cells date category refl p;
+      imported = found-among s allGroups activeImport category _ _ i;
+      exported = found-among s allGroups activeExport category _ _ x;
+      numbers-long = n;
+      marks-long = m;
+    })
 
 -- ---- the answer
 

@@ -11,14 +11,15 @@ use lib.ListN.{length, getD, set, take, length-append, length-set}
 use lib.Seq.{take-suc, take-suc-set, length-take-le}
 use borrow.Table.Steps.{cases}
 use Rattle.ledger.specs.Net.{sumOver, chosenBelow}
-use Rattle.ledger.specs.Method.{overRunDates}
 use Rattle.ledger.proofs.Nets.{sumOver-append, sumOver-one, sumOver-none}
 use borrow.Author.Tests.{eq-eqb, ne-eqb}
 use Rattle.reads.specs.Sums.{Figure}
-use Rattle.reads.specs.Column.{totIn, runIn, Within}
-use Rattle.reads.proofs.ColumnLaws as column-laws
+use Rattle.store.specs.declared.column.Column.{Column}
+use Rattle.store.specs.Column.{beside}
+use Rattle.reads.specs.declared.dates.DatesFigures.{DatesFigures}
+use Rattle.reads.specs.Figures.{noPeriod, DatesFigured}
 use Rattle.net.specs.Sides.{Listed}
-use Rattle.net.specs.Walk.{SummedFirst, columnAt, earlierTot}
+use Rattle.net.specs.Walk.{SummedFirst, earlierTot}
 
 -- ---- what a loop over members has summed
 
@@ -93,17 +94,11 @@ sum-never : (b : Bool) (cs : List ℕ) (f : ℕ → ℕ) → b ≡ true → sumO
 sum-never true cs f e = sumOver-none cs
 sum-never false cs f e = absurd (true≢false (sym e))
 
-module _ (cells : List ℕ) (categories periods date : ℕ) where
+module _ (cells : List ℕ) (column : Column) (date : ℕ) where
   -- before the first date there is none
-  pub none-earlier : (members : List ℕ) (count bound : ℕ) → date ≡ 0 → SummedFirst members count bound (earlierTot cells categories periods date) 0
+  pub none-earlier : (members : List ℕ) (count bound : ℕ) → date ≡ 0 → SummedFirst members count bound (earlierTot cells column date) 0
   none-earlier members count bound e = record { is = sym (sum-never (eqb date 0) (take count members) _ (eq-eqb date 0 e)); small = omega arith }
 
-  pub earlier-is : (bound c r : ℕ) → (date ≡ 0 → ⊥) →
-      Figure bound (overRunDates (runIn (columnAt categories periods c) cells) 6 (totIn (columnAt categories periods c) cells) (date - 1)) r →
-      Figure bound (earlierTot cells categories periods date c) r
-  earlier-is bound c r some f = record { is = f .is ∙ rw (ne-eqb date 0 some); small = f .small }
-
-  -- the rows of earlier dates are within the part where the date's is
-  pub earlier-within : (c : ℕ) → c < categories → 1 ≤ periods → periods ≤ 96 → date * (categories * periods) + categories * periods ≤ length cells →
-      Within cells (columnAt categories periods c) (date - 1)
-  earlier-within c h low high fits = column-laws.earlier-within {cells = cells} {column = columnAt categories periods c} {d = date} (record { category = h; periods = (low, high); date = fits }) 1
+  pub earlier-is : (c : ℕ) {member : Column} {r : DatesFigures} → (date ≡ 0 → ⊥) → member ≡ beside column c → DatesFigured member noPeriod cells (date - 1) 6 r →
+      Figure 2473901161920 (earlierTot cells column date c) (r .tot)
+  earlier-is c some e f = record { is = ap (λ x. x .tot) (f .is) ∙ rw (e, ne-eqb date 0 some); small = f .small }

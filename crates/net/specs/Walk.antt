@@ -6,14 +6,13 @@ use mathlib.Core.List.{List}
 use lib.Dec.{eqb}
 use lib.ListN.{length, getD, take}
 use lib.IntN.{ℤ, pos, _-ℤ_}
-use Rattle.ledger.specs.Method.{Cell, isBlank, overRunDates}
 use Rattle.ledger.specs.Table.{filling}
-use Rattle.ledger.specs.Net.{sumOver, Net}
-use Rattle.ledger.specs.Store.{categoriesOf, datesOf, periodsOf, rowLength, settingsReady, cellsReady, isRunAt, cellOfEntry}
+use Rattle.ledger.specs.Net.{sumOver, Net, netOn}
 use Rattle.ledger.specs.Calls.{overwritten}
-use Rattle.reads.specs.declared.column.Column.{Column}
-use Rattle.reads.specs.Column.{totIn, runIn}
+use Rattle.store.specs.declared.column.Column.{Column}
+use Rattle.store.specs.Column.{beside, cellIn, runIn, Reaches}
 use Rattle.reads.specs.Sums.{Summed}
+use Rattle.reads.specs.Figures.{valueAfter, blankAfter, noPeriod, datesFigures}
 
 -- over the first `count` members, with the bound that keeps the sum within 64 bits
 pub record SummedFirst (members : List ℕ) (count bound : ℕ) (f : ℕ → ℕ) (r : ℕ) : Type 0 where
@@ -26,78 +25,49 @@ pub record Among (categories : ℕ) (members : List ℕ) (count : ℕ) : Type 0 
   pub within : count ≤ length members
   pub each : (i : ℕ) → i < count → getD members i 0 < categories
 
--- ---- one period
+-- ---- the periods of a date; `column` is any category's of the store, and k how many periods come before
 
--- category c's cell, where that of category 0 stands at `at`
-abbrev pub cellBeyond : List ℕ → ℕ → ℕ → ℕ → Cell
-cellBeyond cells at periods c = cellOfEntry (getD cells (at + c * periods) 0)
+pub record SideSummed (cells : List ℕ) (column : Column) (d k : ℕ) (members : List ℕ) (count value blanks : ℕ) : Type 0 where
+  pub values : SummedFirst members count 4294967295 (λ c. valueAfter (beside column c) cells d k) value
+  pub blank : SummedFirst members count 1 (λ c. blankAfter (beside column c) cells d k) blanks
 
-abbrev pub valueBeyond : List ℕ → ℕ → ℕ → ℕ → ℕ
-valueBeyond cells at periods c = cellBeyond cells at periods c .value
+module _ (cells : List ℕ) (column : Column) (d : ℕ) where
+  abbrev pub sideValue : List ℕ → ℕ → ℕ
+  sideValue side k = sumOver side (λ c. valueAfter (beside column c) cells d k)
 
-abbrev pub blankBeyond : List ℕ → ℕ → ℕ → ℕ → ℕ
-blankBeyond cells at periods c = isBlank (cellBeyond cells at periods c .flag)
+  abbrev pub sideBlanks : List ℕ → ℕ → ℕ
+  sideBlanks side k = sumOver side (λ c. blankAfter (beside column c) cells d k)
 
--- the members' cells are within the part
-pub record Reach (cells : List ℕ) (at periods : ℕ) (members : List ℕ) (count : ℕ) : Type 0 where
-  pub few : count ≤ 64
-  pub within : count ≤ length members
-  pub cell : (i : ℕ) → i < count → at + getD members i 0 * periods < length cells
+  abbrev pub periodNet : List ℕ → List ℕ → ℕ → ℤ
+  periodNet imports exports k = pos (sideValue imports k) -ℤ pos (sideValue exports k)
 
-pub record SideSummed (cells : List ℕ) (at periods : ℕ) (members : List ℕ) (count value blanks : ℕ) : Type 0 where
-  pub values : SummedFirst members count 4294967295 (valueBeyond cells at periods) value
-  pub blank : SummedFirst members count 1 (blankBeyond cells at periods) blanks
+  abbrev pub periodMark : List ℕ → List ℕ → ℕ → ℕ
+  periodMark imports exports k = cond (eqb (sideBlanks imports k + sideBlanks exports k) 0) 0 1
 
--- ---- the periods of a date, whose cells start at `first`
-
-pub record RowReach (cells : List ℕ) (first periods : ℕ) (members : List ℕ) (count : ℕ) : Type 0 where
-  pub few : count ≤ 64
-  pub within : count ≤ length members
-  pub cell : (k i : ℕ) → k < periods → i < count → (first + k) + getD members i 0 * periods < length cells
-
-abbrev pub sideValue : List ℕ → ℕ → ℕ → List ℕ → ℕ → ℕ
-sideValue cells first periods side k = sumOver side (valueBeyond cells (first + k) periods)
-
-abbrev pub sideBlanks : List ℕ → ℕ → ℕ → List ℕ → ℕ → ℕ
-sideBlanks cells first periods side k = sumOver side (blankBeyond cells (first + k) periods)
-
-abbrev pub periodNet : List ℕ → ℕ → ℕ → List ℕ → List ℕ → ℕ → ℤ
-periodNet cells first periods imports exports k =
-    pos (sideValue cells first periods imports k) -ℤ pos (sideValue cells first periods exports k)
-
-abbrev pub periodMark : List ℕ → ℕ → ℕ → List ℕ → List ℕ → ℕ → ℕ
-periodMark cells first periods imports exports k =
-    cond (eqb (sideBlanks cells first periods imports k + sideBlanks cells first periods exports k) 0) 0 1
+  -- TOT of category c over the run dates among the six before the date
+  abbrev pub earlierTot : ℕ → ℕ
+  earlierTot c = cond (eqb d 0) 0 (datesFigures (beside column c) noPeriod cells (d - 1) 6 .tot)
 
 -- 64 categories of 32 bits each
-pub record DayWritten (cells : List ℕ) (first periods : ℕ) (imports exports : List ℕ) (numbers numbers′ : List ℤ) (marks marks′ : List ℕ) (import export : ℕ) : Type 0 where
-  pub nets-are : numbers′ ≡ filling periods (periodNet cells first periods imports exports) numbers
-  pub marks-are : marks′ ≡ filling periods (periodMark cells first periods imports exports) marks
-  pub imported : Summed periods 274877906880 (sideValue cells first periods imports) import
-  pub exported : Summed periods 274877906880 (sideValue cells first periods exports) export
-
--- ---- the six dates before
-
-abbrev pub columnAt : ℕ → ℕ → ℕ → Column
-columnAt categories periods c = record { categories = categories; periods = periods; category = c }
-
--- TOT of category c over the run dates among the six before the date
-abbrev pub earlierTot : List ℕ → ℕ → ℕ → ℕ → ℕ → ℕ
-earlierTot cells categories periods date c =
-    cond (eqb date 0) 0 (overRunDates (runIn (columnAt categories periods c) cells) 6 (totIn (columnAt categories periods c) cells) (date - 1))
+pub record DayWritten (cells : List ℕ) (column : Column) (d : ℕ) (imports exports : List ℕ) (numbers numbers′ : List ℤ) (marks marks′ : List ℕ) (import export : ℕ) : Type 0 where
+  pub nets-are : numbers′ ≡ filling (column .periods) (periodNet cells column d imports exports) numbers
+  pub marks-are : marks′ ≡ filling (column .periods) (periodMark cells column d imports exports) marks
+  pub imported : Summed (column .periods) 274877906880 (sideValue cells column d imports) import
+  pub exported : Summed (column .periods) 274877906880 (sideValue cells column d exports) export
 
 -- ---- the net
 
+abbrev pub netIn : Column → List ℕ → List ℕ → List ℕ → ℕ → Net
+netIn column cells imports exports d = netOn (column .periods) (runIn column cells) (λ x c j. cellIn (beside column c) cells x j) imports exports d
+
 -- all checks have passed, and both sides are found
-pub record MayWrite (settings cells : List ℕ) (date : ℕ) (imports : List ℕ) (importCount : ℕ) (exports : List ℕ) (exportCount numbers marks : ℕ) : Type 0 where
-  pub opened : settingsReady settings ≡ true
-  pub complete : cellsReady settings cells ≡ true
-  pub date-is : date < datesOf settings
-  pub run : isRunAt (rowLength settings) cells date ≡ true
-  pub imported : Among (categoriesOf settings) imports importCount
-  pub exported : Among (categoriesOf settings) exports exportCount
-  pub numbers-long : periodsOf settings ≤ numbers
-  pub marks-long : periodsOf settings ≤ marks
+pub record MayWrite (cells : List ℕ) (column : Column) (d : ℕ) (imports : List ℕ) (importCount : ℕ) (exports : List ℕ) (exportCount numbers marks : ℕ) : Type 0 where
+  pub reaches : Reaches cells column d
+  pub run : runIn column cells d ≡ true
+  pub imported : Among (column .categories) imports importCount
+  pub exported : Among (column .categories) exports exportCount
+  pub numbers-long : column .periods ≤ numbers
+  pub marks-long : column .periods ≤ marks
 
 -- TOT and TOT7 are a net's, and both lists have its periods and marks at their fronts
 pub record NetWritten (net : Net) (tot tot7 : ℤ) (numbers numbers′ : List ℤ) (marks marks′ : List ℕ) : Type 0 where

@@ -1,14 +1,13 @@
 // The checks of a net read, each part as the number of its refusal: 0 says that it passed.
 use crate::sides::ACTIVE_IMPORT;
+use reads::checks::category_number;
+use reads::checks::date_number;
 use reads::checks::first_failed;
 use reads::checks::run_number;
 use store::category::is_smart;
 use store::category::quantity;
-use store::settings::category_count;
-use store::settings::cells_ready;
-use store::settings::date_count;
+use store::lent::cells_unready;
 use store::settings::period_count;
-use store::settings::settings_ready;
 ghost use mathlib.Core.Path.{_≡_};
 ghost use mathlib.Core.Bool.{true, not, _||_, cond};
 ghost use Prim.Native.Nat.{_<_};
@@ -18,24 +17,18 @@ ghost use Rattle.ledger.specs.Store.{categoriesOf, datesOf, periodsOf, rowLengt
 ghost use Rattle.ledger.specs.Calls.{cellsUnready};
 ghost use Rattle.net.specs.Sides.{pairedWith};
 
-// 1: a part or a list for results is too short, or the store unopened.
-fn short_number(settings: &[u8], cells: &[u64], numbers: u64, marks: u64) -> u64
-    ensures { λ r. ⌜ r ≡ cond (cellsUnready (now (settings .entry)) (now (cells .entry)) || resultsShort (periodsOf (now (settings .entry))) numbers marks) 1 0 ⌝ }
+// Whether a part or a list for results is too short, or the store unopened.
+fn too_short(settings: &[u8], cells: &[u64], numbers: u64, marks: u64) -> bool
+    ensures { λ r. ⌜ r ≡ (cellsUnready (now (settings .entry)) (now (cells .entry)) || resultsShort (periodsOf (now (settings .entry))) numbers marks) ⌝ }
 {
-    if !settings_ready(settings) {
-        return 1;
-    }
-    if !cells_ready(settings, cells) {
-        return 1;
+    if cells_unready(settings, cells) {
+        return true;
     }
     let periods = period_count(settings);
     if numbers < periods {
-        return 1;
+        return true;
     }
-    if marks < periods {
-        return 1;
-    }
-    0
+    marks < periods
 }
 
 // 1, 9 and 15.
@@ -49,17 +42,12 @@ pub fn range_number(
 ) -> u64
     ensures { λ r. ⌜ r ≡ cond (cellsUnready (now (settings .entry)) (now (cells .entry)) || resultsShort (periodsOf (now (settings .entry))) numbers marks) 1 (cond (leb (datesOf (now (settings .entry))) date) 9 (cond (not (totalsInRange (categoriesOf (now (settings .entry))) category)) 15 0)) ⌝ }
 {
-    let short = short_number(settings, cells, numbers, marks);
-    if short != 0 {
-        return short;
+    if too_short(settings, cells, numbers, marks) {
+        return 1;
     }
-    if date_count(settings) <= date {
-        return 9;
-    }
-    if category_count(settings) <= category {
-        return 15;
-    }
-    0
+    let date_failed = date_number(settings, date);
+    let category_failed = category_number(settings, category);
+    first_failed(date_failed, category_failed)
 }
 
 // 26; `exports` is how many export categories there are on the other side.

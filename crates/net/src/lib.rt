@@ -7,19 +7,18 @@ use crate::sides::ACTIVE_EXPORT;
 use crate::sides::ACTIVE_IMPORT;
 use crate::sides::members;
 use crate::week::earlier_sum;
+use store::column::Column;
+use store::column::column_of;
 use store::outcome::Net;
 use store::outcome::NetOutcome;
-use store::settings::category_count;
-use store::settings::period_count;
 ghost use mathlib.Core.Path.{_≡_};
 ghost use lib.ListN.{length, take};
-ghost use Rattle.ledger.specs.Net.{netOn};
 ghost use Rattle.ledger.specs.Ledger.{answer, netIs, left};
-ghost use Rattle.ledger.specs.Store.{periodsOf, rowLength, isRunAt};
-ghost use Rattle.ledger.specs.Calls.{cellFor, netVerdict, netFor, overwritten};
+ghost use Rattle.ledger.specs.Store.{periodsOf};
+ghost use Rattle.ledger.specs.Calls.{netVerdict, netFor, overwritten};
 ghost use Rattle.net.specs.Asked.{netCall};
 ghost use Rattle.store.specs.Outcome.{netAnswer};
-ghost use Rattle.net.specs.Walk.{MayWrite, NetWritten};
+ghost use Rattle.net.specs.Walk.{netIn, MayWrite, NetWritten};
 
 mod checks;
 mod periods;
@@ -64,9 +63,10 @@ pub fn read_net(
     }
     let mut imports = [0u64; 64];
     let import_count = members(settings, all_groups, ACTIVE_IMPORT, category, &mut imports);
+    let column = column_of(settings, category);
     NetOutcome::Net(net_of(
-        settings,
         cells,
+        column,
         date,
         &imports,
         import_count,
@@ -77,9 +77,10 @@ pub fn read_net(
     ))
 }
 
+// `column` is any category's.
 fn net_of(
-    settings: &[u8],
     cells: &[u64],
+    column: Column,
     date: u64,
     imports: &[u64; 64],
     import_count: u64,
@@ -88,15 +89,13 @@ fn net_of(
     numbers: &mut [i64],
     marks: &mut [u8],
 ) -> Net
-    requires { ⌜ MayWrite (now settings) (now cells) date (now imports) «import_count» (now exports) «export_count» (length (now numbers)) (length (now marks)) ⌝ }
-    ensures { λ r. ⌜ NetWritten (netOn (periodsOf (now (settings .entry))) (isRunAt (rowLength (now (settings .entry))) (now (cells .entry))) (cellFor (now (settings .entry)) (now (cells .entry))) (take «import_count» (now (imports .entry))) (take «export_count» (now (exports .entry))) date) (r .tot) (r .tot7) (now (numbers .entry)) (now (numbers .exit)) (now (marks .entry)) (now (marks .exit)) ⌝ }
+    requires { ⌜ MayWrite (now cells) column date (now imports) «import_count» (now exports) «export_count» (length (now numbers)) (length (now marks)) ⌝ }
+    ensures { λ r. ⌜ NetWritten (netIn column (now (cells .entry)) (take «import_count» (now (imports .entry))) (take «export_count» (now (exports .entry))) date) (r .tot) (r .tot7) (now (numbers .entry)) (now (numbers .exit)) (now (marks .entry)) (now (marks .exit)) ⌝ }
 {
-    let categories = category_count(settings);
-    let periods = period_count(settings);
     let day = write_periods(
         cells,
-        date * (categories * periods),
-        periods,
+        column,
+        date,
         imports,
         import_count,
         exports,
@@ -104,8 +103,8 @@ fn net_of(
         numbers,
         marks,
     );
-    let import_before = earlier_sum(cells, categories, periods, imports, import_count, date);
-    let export_before = earlier_sum(cells, categories, periods, exports, export_count, date);
+    let import_before = earlier_sum(cells, column, date, imports, import_count);
+    let export_before = earlier_sum(cells, column, date, exports, export_count);
     let tot = difference(day.import, day.export);
     let tot7 = difference(day.import + import_before, day.export + export_before);
     Net { tot, tot7 }

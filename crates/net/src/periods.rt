@@ -1,15 +1,16 @@
 // The periods of the date: each cell that is summed is read once.
 use reads::periods::blank_number;
-use store::access::entry_at;
-use store::cell::entry_flag;
-use store::cell::entry_value;
+use store::column::Column;
+use store::column::beside;
+use store::column::cell_at;
 ghost use mathlib.Core.Path.{_≡_};
 ghost use mathlib.Core.Bool.{cond};
 ghost use Prim.Native.Nat.{_+_, _<_, _≤_};
 ghost use lib.Dec.{eqb};
 ghost use lib.IntN.{pos, _-ℤ_};
 ghost use lib.ListN.{length, set, take};
-ghost use Rattle.net.specs.Walk.{Reach, RowReach, SideSummed, DayWritten};
+ghost use Rattle.store.specs.Column.{Reaches};
+ghost use Rattle.net.specs.Walk.{Among, SideSummed, DayWritten};
 
 // The cells of one period, summed over one side: their values, and how many of them are N.
 pub struct SideSum {
@@ -51,28 +52,37 @@ fn put_mark(marks: &mut [u8], k: u64, import_blanks: u64, export_blanks: u64)
     marks[k as usize] = 1;
 }
 
-// `at` is where the period's cell of category 0 stands; a category's cell stands `periods` entries behind that of the one before it.
-fn side_sum(cells: &[u64], at: u64, periods: u64, members: &[u64; 64], count: u64) -> SideSum
-    requires { ⌜ Reach (now cells) at periods (now members) count ⌝ }
-    ensures { λ r. ⌜ SideSummed (now (cells .entry)) at periods (now (members .entry)) count (r .value) (r .blanks) ⌝ }
+// Over the period that comes after `k` others.
+fn side_sum(
+    cells: &[u64],
+    column: Column,
+    date: u64,
+    k: u64,
+    members: &[u64; 64],
+    count: u64,
+) -> SideSum
+    requires { ⌜ Reaches (now cells) column date × (k < column .periods) × Among (column .categories) (now members) count ⌝ }
+    ensures { λ r. ⌜ SideSummed (now (cells .entry)) column date k (now (members .entry)) count (r .value) (r .blanks) ⌝ }
 {
     let mut value: u64 = 0;
     let mut blanks: u64 = 0;
     let mut i: u64 = 0;
     while i < count {
-        let entry = entry_at(cells, at + members[i as usize] * periods);
-        value += entry_value(entry);
-        blanks += blank_number(entry_flag(entry));
+        let category = members[i as usize];
+        let member = beside(column, category);
+        let cell = cell_at(cells, member, date, k);
+        let flag = cell.flag;
+        value += cell.value;
+        blanks += blank_number(flag);
         i += 1;
     }
     SideSum { value, blanks }
 }
 
-// `first` is where the date's cells start.
 pub fn write_periods(
     cells: &[u64],
-    first: u64,
-    periods: u64,
+    column: Column,
+    date: u64,
     imports: &[u64; 64],
     import_count: u64,
     exports: &[u64; 64],
@@ -80,15 +90,16 @@ pub fn write_periods(
     numbers: &mut [i64],
     marks: &mut [u8],
 ) -> DaySums
-    requires { ⌜ RowReach (now cells) first periods (now imports) «import_count» × RowReach (now cells) first periods (now exports) «export_count» × (periods ≤ 96) × (first + periods ≤ length (now cells)) × (periods ≤ length (now numbers)) × (periods ≤ length (now marks)) ⌝ }
-    ensures { λ r. ⌜ DayWritten (now (cells .entry)) first periods (take «import_count» (now (imports .entry))) (take «export_count» (now (exports .entry))) (now (numbers .entry)) (now (numbers .exit)) (now (marks .entry)) (now (marks .exit)) (r .import) (r .export) ⌝ }
+    requires { ⌜ Reaches (now cells) column date × Among (column .categories) (now imports) «import_count» × Among (column .categories) (now exports) «export_count» × (column .periods ≤ length (now numbers)) × (column .periods ≤ length (now marks)) ⌝ }
+    ensures { λ r. ⌜ DayWritten (now (cells .entry)) column date (take «import_count» (now (imports .entry))) (take «export_count» (now (exports .entry))) (now (numbers .entry)) (now (numbers .exit)) (now (marks .entry)) (now (marks .exit)) (r .import) (r .export) ⌝ }
 {
+    let periods = column.periods;
     let mut import: u64 = 0;
     let mut export: u64 = 0;
     let mut k: u64 = 0;
     while k < periods {
-        let plus = side_sum(cells, first + k, periods, imports, import_count);
-        let minus = side_sum(cells, first + k, periods, exports, export_count);
+        let plus = side_sum(cells, column, date, k, imports, import_count);
+        let minus = side_sum(cells, column, date, k, exports, export_count);
         put_net(numbers, k, plus.value, minus.value);
         put_mark(marks, k, plus.blanks, minus.blanks);
         import += plus.value;

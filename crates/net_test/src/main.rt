@@ -2,6 +2,8 @@
 mod nets;
 mod show;
 
+use commands::Capacity;
+
 fn main() {
     let mut category_records = [0u8; 96];
     let mut day_types = [0u8; 12];
@@ -16,8 +18,10 @@ fn main() {
         &mut meters,
         &mut readings,
         &mut cells,
-        12,
-        576,
+        Capacity {
+            meters: 12,
+            date_periods: 576,
+        },
     );
     nets::all_nets(&settings, &cells, false);
     nets::all_nets(&settings, &cells, true);

@@ -1,2 +1,2 @@
--- What the opening's contract cites beyond the ledger's definitions.
-pub mod Opening
+-- What the opening's contracts cite beyond the ledger's definitions.
+pub mod Lengths

@@ -63,7 +63,7 @@ fewest-tenth n k f =
       λ _. rw less' (le-div-iff-mul-le {k = 10} {x = 10 ^ k} {y = n} (omega arith) .1 low),
     )
 
-pub digits-decimal : (most k n : ℕ) → k ≤ most → Fewest 10 1 n k → digits 10 k n ≡ decimalIn most n
+digits-decimal : (most k n : ℕ) → k ≤ most → Fewest 10 1 n k → digits 10 k n ≡ decimalIn most n
 unfolding decimalIn
 digits-decimal most zero n h f = absurd (not-suc-le-zero (f .0))
 digits-decimal zero (suc k) n h f = absurd (not-suc-le-zero h)
@@ -104,7 +104,7 @@ read-point : (sum : ℕ) (cs : List ℕ) → readFrom sum (46 ∷ cs) ≡ readFr
 unfolding readFrom
 read-point sum cs = refl
 
-pub read-decimal : (most n : ℕ) → n < 10 ^ most → readFrom 0 (decimalIn most n) ≡ n
+read-decimal : (most n : ℕ) → n < 10 ^ most → readFrom 0 (decimalIn most n) ≡ n
 unfolding decimalIn
 read-decimal zero n h = let none : n ≡ 0 = omega arith in rw (read-none, none)
 read-decimal (suc most) n h =

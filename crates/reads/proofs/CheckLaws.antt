@@ -1,29 +1,19 @@
 -- The checks of a read: what holds where they pass, and which number they give.
-use Prim.Native.Nat.{ℕ, _+_, _*_, _≤_, _<_}
+use Prim.Native.Nat.{ℕ, suc, _≤_, _<_}
 use mathlib.Core.Path.{_≡_, refl, _∙_}
 use mathlib.Core.Bool.{Bool, true, false, not, _&&_, cond, and-eq-true-iff}
 use mathlib.Core.List.{List}
 use native.Mathlib.Omega.{arith}
-use native.Mathlib.Nat.{mul-le-mul-right, suc-mul, div-mul-le-self}
-use borrow.Author.Tests.{leb-true, leb-false, ltb-true, eqb-false, not-false}
+use borrow.Author.Tests.{leb-true, leb-false, ltb-true, eqb-false, ne-eqb, not-false}
 use lib.Dec.{leb, eqb}
-use lib.ListN.{length}
-use Rattle.metering.specs.Calendar.{periodsPerDay}
 use Rattle.metering.specs.Range.{between}
 use Rattle.ledger.specs.Checks.{runCheck, readCheck, totalsInRange, cellInRange}
-use Rattle.ledger.specs.Sizes.{cellsLength}
-use Rattle.ledger.specs.Store.{durationOf, categoriesOf, datesOf, periodsOf, settingsReady, cellsReady}
-use Rattle.ledger.specs.Ready.{ready, periods-bound}
+use Rattle.ledger.specs.Store.{datesOf, periodsOf, rowLength, settingsReady, cellsReady}
 use Rattle.ledger.specs.Calls.{cellsUnready, totalsVerdict, cellVerdict}
-use Rattle.reads.specs.declared.column.Column.{Column}
-use Rattle.reads.specs.Column.{Within}
+use Rattle.store.specs.declared.column.Column.{Column}
+use Rattle.store.specs.Column.{columnOf, runIn, Reaches}
+use Rattle.store.proofs.ColumnLaws.{column-reaches}
 use Rattle.reads.specs.ReadAccepted.{ReadAccepted}
-
--- what the settings say of a category
-abbrev pub columnOf : List ℕ → ℕ → Column
-columnOf settings c = record { categories = categoriesOf settings; periods = periodsOf settings; category = c }
-
--- ---- what a test says of what it tests
 
 -- ---- what holds where the checks pass
 
@@ -83,40 +73,20 @@ module _ (settings cells : List ℕ) (d : ℕ) where
         leb-true _ _ (w .1),
       )
 
-  -- the part reaches past the cells of each of its dates
-  pub row-within :
-      cellsReady settings cells ≡ true → d < datesOf settings →
-      d * (categoriesOf settings * periodsOf settings) + categoriesOf settings * periodsOf settings ≤ length cells
-  unfolding cellsReady cellsLength
-  row-within r h =
-      let n = categoriesOf settings * periodsOf settings in
-      let all : datesOf settings * n ≤ length cells = leb-true _ _ r in
-      omega (arith, all, suc-mul d n, mul-le-mul-right n h)
+  module _ (c : ℕ) {column : Column} (e : column ≡ columnOf settings c) (p : ReadAccepted settings cells d c) where
+    pub passed-reaches : Reaches cells column d
+    passed-reaches = rw e (column-reaches settings cells d c (p .opened) (p .complete) (p .date) (p .category))
 
-  -- and a date has cells
-  pub row-marked :
-      settingsReady settings ≡ true → cellsReady settings cells ≡ true → d < datesOf settings →
-      d * (categoriesOf settings * periodsOf settings) < length cells
-  row-marked s r h =
-      let k = ready settings s in
-      let b = periods-bound settings k in
-      omega (arith, row-within r h, mul-le-mul-right (periodsOf settings) (k .categories .0))
-
-  pub passed-within : (c : ℕ) → ReadAccepted settings cells d c → Within cells (columnOf settings c) d
-  passed-within c p =
-      let b = periods-bound settings (ready settings (p .opened)) in
-      record { category = p .category; periods = (omega arith, b .1); date = row-within (p .complete) (p .date) }
-
--- a day's periods end at minute 1440 at the latest
-pub day-fits : (settings : List ℕ) → periodsOf settings * durationOf settings ≤ 1440
-unfolding periodsOf periodsPerDay
-day-fits settings = div-mul-le-self 1440 (durationOf settings)
+    pub passed-run : runIn column cells d ≡ true
+    unfolding rowLength
+    passed-run = rw e (p .run)
 
 -- ---- which number they give
 
-range-before-run : (out unrun : Bool) → _≡_ {A = ℕ} (cond (eqb (cond out 15 0) 0) (cond unrun 14 0) (cond out 15 0)) (cond out 15 (cond unrun 14 0))
-range-before-run true unrun = refl
-range-before-run false unrun = refl
+-- the first of two checks decides where it fails
+pub first-number : (failed : Bool) (n : ℕ) {p q r x : ℕ} → p ≡ cond failed (suc n) 0 → q ≡ x → r ≡ cond (eqb p 0) q p → r ≡ cond failed (suc n) x
+first-number true n a b e = e ∙ rw (a, ne-eqb (suc n) 0 (λ (z : suc n ≡ 0). omega arith))
+first-number false n a b e = e ∙ rw (a, b)
 
 first : (short late : Bool) (rest n : ℕ) → n ≡ cond short 1 (cond late 9 0) → (n ≡ 0 → ⊥) → n ≡ cond short 1 (cond late 9 rest)
 first true late rest n e h = e
@@ -138,5 +108,4 @@ module _ (short : Bool) (dates date : ℕ) (inRange isRun : Bool) (n : ℕ) (e :
       r ≡ readCheck short dates date inRange isRun
   unfolding runCheck readCheck
   rest-decides range run r z a b f =
-      let g : r ≡ cond (not inRange) 15 (cond (not isRun) 14 0) = f ∙ rw (a, b) (range-before-run (not inRange) (not isRun)) in
-      rw g (rest short (leb dates date) _ n e z)
+      rw (first-number (not inRange) 14 a b f) (rest short (leb dates date) _ n e z)

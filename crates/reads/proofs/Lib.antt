@@ -1,4 +1,4 @@
 -- Laws that the proofs of the reads share.
 pub mod SumLaws
-pub mod ColumnLaws
+pub mod FigureLaws
 pub mod CheckLaws

@@ -10,7 +10,7 @@ use lib.Dec.{leb, eqb}
 use Rattle.metering.specs.Sum.{sumBelow, sumBelow-zero, sumBelow-suc, sumBelow-le}
 use Rattle.ledger.specs.Method.{overRunDates}
 use Rattle.reads.specs.Sums.{Figure, Summed}
-use Rattle.reads.specs.Column.{term}
+use Rattle.reads.specs.Figures.{term}
 
 -- ---- what a loop has summed
 
@@ -30,18 +30,18 @@ pub sum-alike : (n : ℕ) {f g : ℕ → ℕ} → ((k : ℕ) → f k ≡ g k) �
 sum-alike zero {f} {g} same = rw (sumBelow-zero f, sumBelow-zero g)
 sum-alike (suc n) {f} {g} same = rw (sumBelow-suc n f, sumBelow-suc n g, sum-alike n same, same n)
 
-pub sum-nothing : (n : ℕ) → sumBelow n (λ k. 0) ≡ 0
+sum-nothing : (n : ℕ) → sumBelow n (λ k. 0) ≡ 0
 sum-nothing zero = rw sumBelow-zero
 sum-nothing (suc n) = rw (sumBelow-suc, sum-nothing n)
 
-pub sum-minus : (n : ℕ) (f g : ℕ → ℕ) → ((k : ℕ) → g k ≤ f k) → sumBelow n (λ k. f k - g k) ≡ sumBelow n f - sumBelow n g
+sum-minus : (n : ℕ) (f g : ℕ → ℕ) → ((k : ℕ) → g k ≤ f k) → sumBelow n (λ k. f k - g k) ≡ sumBelow n f - sumBelow n g
 sum-minus zero f g less = rw (sumBelow-zero (λ k. f k - g k), sumBelow-zero f, sumBelow-zero g)
 sum-minus (suc n) f g less =
     let l = sumBelow-le n g f less in
     let h = less n in
     rw (sumBelow-suc n (λ k. f k - g k), sumBelow-suc n f, sumBelow-suc n g, sum-minus n f g less) (omega arith)
 
-pub sum-first : (n : ℕ) (f : ℕ → ℕ) → f 0 ≤ sumBelow (suc n) f
+sum-first : (n : ℕ) (f : ℕ → ℕ) → f 0 ≤ sumBelow (suc n) f
 sum-first zero f = rw (sumBelow-suc, sumBelow-zero) (omega arith)
 sum-first (suc n) f = let h = sum-first n f in rw (sumBelow-suc (suc n)) (omega arith)
 

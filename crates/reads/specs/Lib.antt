@@ -1,4 +1,4 @@
 -- What the contracts of the reads say beyond the ledger crate's definitions.
 pub mod Sums
-pub mod Column
+pub mod Figures
 pub mod ReadAccepted

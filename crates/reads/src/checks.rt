@@ -1,15 +1,15 @@
 // The checks of both reads, each as the number of its refusal: 0 says that it passed.
 use metering::range::between;
-use store::run_mark::is_run;
+use store::column::column_of;
+use store::column::ran_on;
+use store::lent::cells_unready;
 use store::settings::category_count;
-use store::settings::cells_ready;
 use store::settings::date_count;
 use store::settings::period_count;
-use store::settings::settings_ready;
 ghost use mathlib.Core.Path.{_≡_};
 ghost use mathlib.Core.Bool.{true, not, cond};
 ghost use Prim.Native.Nat.{_<_};
-ghost use lib.Dec.{eqb};
+ghost use lib.Dec.{eqb, leb};
 ghost use Rattle.ledger.specs.Checks.{runCheck, totalsInRange, cellInRange};
 ghost use Rattle.ledger.specs.Store.{categoriesOf, datesOf, periodsOf, rowLength, settingsReady, cellsReady, isRunAt};
 ghost use Rattle.ledger.specs.Calls.{cellsUnready, totalsVerdict, cellVerdict};
@@ -23,24 +23,29 @@ pub fn first_failed(first: u64, second: u64) -> u64
     first
 }
 
-// 1: too short or unopened; 9: no such date.
-fn date_number(settings: &[u8], cells: &[u64], date: u64) -> u64
-    ensures { λ r. ⌜ r ≡ runCheck (cellsUnready (now (settings .entry)) (now (cells .entry))) (datesOf (now (settings .entry))) date ⌝ }
+// 9: no such date.
+pub fn date_number(settings: &[u8], date: u64) -> u64
+    requires { ⌜ settingsReady (now settings) ≡ true ⌝ }
+    ensures { λ r. ⌜ r ≡ cond (leb (datesOf (now (settings .entry))) date) 9 0 ⌝ }
 {
-    if !settings_ready(settings) {
-        return 1;
-    }
-    if !cells_ready(settings, cells) {
-        return 1;
-    }
     if date < date_count(settings) {
         return 0;
     }
     9
 }
 
+// 1: too short or unopened; then 9.
+fn lent_number(settings: &[u8], cells: &[u64], date: u64) -> u64
+    ensures { λ r. ⌜ r ≡ runCheck (cellsUnready (now (settings .entry)) (now (cells .entry))) (datesOf (now (settings .entry))) date ⌝ }
+{
+    if cells_unready(settings, cells) {
+        return 1;
+    }
+    date_number(settings, date)
+}
+
 // 15, for a totals read.
-fn category_number(settings: &[u8], category: u64) -> u64
+pub fn category_number(settings: &[u8], category: u64) -> u64
     requires { ⌜ settingsReady (now settings) ≡ true ⌝ }
     ensures { λ r. ⌜ r ≡ cond (not (totalsInRange (categoriesOf (now (settings .entry))) category)) 15 0 ⌝ }
 {
@@ -64,16 +69,12 @@ fn period_number(settings: &[u8], category: u64, period: u64) -> u64
     15
 }
 
-// 14: the date is not run.
+// 14: the date is not run, which every category's column says.
 pub fn run_number(settings: &[u8], cells: &[u64], date: u64) -> u64
     requires { ⌜ (settingsReady (now settings) ≡ true) × (cellsReady (now settings) (now cells) ≡ true) × (date < datesOf (now settings)) ⌝ }
     ensures { λ r. ⌜ r ≡ cond (not (isRunAt (rowLength (now (settings .entry))) (now (cells .entry)) date)) 14 0 ⌝ }
 {
-    if !is_run(
-        category_count(settings) * period_count(settings),
-        cells,
-        date,
-    ) {
+    if !ran_on(cells, column_of(settings, 0), date) {
         return 14;
     }
     0
@@ -82,7 +83,7 @@ pub fn run_number(settings: &[u8], cells: &[u64], date: u64) -> u64
 pub fn totals_check(settings: &[u8], cells: &[u64], date: u64, category: u64) -> u64
     ensures { λ r. ⌜ r ≡ totalsVerdict (now (settings .entry)) (now (cells .entry)) date category .number ⌝ }
 {
-    let number = date_number(settings, cells, date);
+    let number = lent_number(settings, cells, date);
     if number != 0 {
         return number;
     }
@@ -94,7 +95,7 @@ pub fn totals_check(settings: &[u8], cells: &[u64], date: u64, category: u64) ->
 pub fn cell_check(settings: &[u8], cells: &[u64], date: u64, category: u64, period: u64) -> u64
     ensures { λ r. ⌜ r ≡ cellVerdict (now (settings .entry)) (now (cells .entry)) date category period .number ⌝ }
 {
-    let number = date_number(settings, cells, date);
+    let number = lent_number(settings, cells, date);
     if number != 0 {
         return number;
     }

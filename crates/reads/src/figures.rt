@@ -1,29 +1,19 @@
 // All figures of a run date and category.
-use crate::column::Column;
-use crate::dates::blanks_on;
-use crate::dates::days_over;
-use crate::dates::fresh_on;
-use crate::dates::off_on;
-use crate::dates::off_over;
-use crate::dates::tot_on;
-use crate::dates::tot_over;
-use crate::periods::OffPeak;
+use crate::dates::over_dates;
+use crate::periods::NO_PERIOD;
+use crate::periods::day_figures;
+use crate::periods::off_peak;
 use metering::average::annual_figure;
-use metering::calendar::window_end;
-use metering::calendar::window_start;
 use store::category::window;
+use store::column::column_of;
 use store::outcome::Totals;
-use store::settings::category_count;
 use store::settings::duration;
-use store::settings::period_count;
 ghost use mathlib.Core.Path.{_≡_};
-ghost use mathlib.Core.Bool.{true, cond};
-ghost use Prim.Native.Nat.{_-_, _*_, _≤_};
+ghost use mathlib.Core.Bool.{cond};
+ghost use Prim.Native.Nat.{_-_, _≤_};
 ghost use lib.Dec.{eqb};
-ghost use Rattle.ledger.specs.Method.{totalsOn};
 ghost use Rattle.ledger.specs.Calls.{totalsFor};
 ghost use Rattle.store.specs.Outcome.{totalsMeant};
-ghost use Rattle.reads.specs.Column.{Within, cellIn, runIn};
 ghost use Rattle.reads.specs.ReadAccepted.{ReadAccepted};
 
 // With window 0 there is no peak either.
@@ -37,52 +27,28 @@ fn peak_of(number: u64, tot: u64, off: u64) -> u64
     tot - off
 }
 
-// `number` is the window's, 0 for none.
-fn figures_of(cells: &[u64], column: Column, duration: u64, number: u64, date: u64) -> Totals
-    requires { ⌜ Within (now cells) column date × (column .periods * duration ≤ 1440) × (runIn column (now cells) date ≡ true) ⌝ }
-    ensures { λ r. ⌜ totalsMeant r ≡ totalsOn duration (column .periods) number (runIn column (now (cells .entry))) (cellIn column (now (cells .entry))) date ⌝ }
-{
-    let off_peak = OffPeak {
-        duration,
-        start: window_start(number),
-        end: window_end(number),
-    };
-    let tot = tot_on(cells, column, date);
-    let off = off_on(cells, column, off_peak, date);
-    let tot7 = tot_over(cells, column, date, 7);
-    let off7 = off_over(cells, column, off_peak, date, 7);
-    let days7 = days_over(cells, column, date, 7);
-    let sum = tot_over(cells, column, date, 365);
-    let days = days_over(cells, column, date, 365);
-    Totals {
-        tot,
-        off,
-        peak: peak_of(number, tot, off),
-        tot7,
-        off7,
-        peak7: peak_of(number, tot7, off7),
-        days7,
-        ann: annual_figure(sum, days),
-        days,
-        fresh: fresh_on(cells, column, date),
-        blanks: blanks_on(cells, column, date),
-    }
-}
-
+// The year has no OFF.
 pub fn totals_of(settings: &[u8], cells: &[u64], date: u64, category: u64) -> Totals
     requires { ⌜ ReadAccepted (now settings) (now cells) date category ⌝ }
     ensures { λ r. ⌜ totalsMeant r ≡ totalsFor (now (settings .entry)) (now (cells .entry)) date category ⌝ }
 {
-    let column = Column {
-        categories: category_count(settings),
-        periods: period_count(settings),
-        category,
-    };
-    figures_of(
-        cells,
-        column,
-        duration(settings),
-        window(settings, category),
-        date,
-    )
+    let column = column_of(settings, category);
+    let number = window(settings, category);
+    let periods = off_peak(duration(settings), number);
+    let day = day_figures(cells, column, periods, date);
+    let week = over_dates(cells, column, periods, date, 7);
+    let year = over_dates(cells, column, NO_PERIOD, date, 365);
+    Totals {
+        tot: day.tot,
+        off: day.off,
+        peak: peak_of(number, day.tot, day.off),
+        tot7: week.tot,
+        off7: week.off,
+        peak7: peak_of(number, week.tot, week.off),
+        days7: week.days,
+        ann: annual_figure(year.tot, year.days),
+        days: year.days,
+        fresh: day.fresh,
+        blanks: day.blanks,
+    }
 }

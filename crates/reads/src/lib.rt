@@ -1,8 +1,9 @@
 // The two reads: a cell, and the totals of a date and category. Both only look at the lent settings and cells.
 use crate::checks::cell_check;
 use crate::checks::totals_check;
-use crate::column::cell_at;
 use crate::figures::totals_of;
+use store::column::cell_at;
+use store::column::column_of;
 use store::outcome::CellOutcome;
 use store::outcome::TotalsOutcome;
 ghost use mathlib.Core.Path.{_≡_};
@@ -11,7 +12,6 @@ ghost use Rattle.ledger.specs.Calls.{cellVerdict, cellFor, totalsVerdict, total
 ghost use Rattle.store.specs.Outcome.{cellAnswer, totalsAnswer};
 
 pub mod checks;
-pub mod column;
 pub mod dates;
 mod figures;
 pub mod periods;
@@ -29,7 +29,8 @@ pub fn read_cell(
     if number != 0 {
         return CellOutcome::Refused { number, place: 0 };
     }
-    CellOutcome::Cell(cell_at(settings, cells, date, category, period))
+    let column = column_of(settings, category);
+    CellOutcome::Cell(cell_at(cells, column, date, period - 1))
 }
 
 pub fn read_totals(settings: &[u8], cells: &[u64], date: u64, category: u64) -> TotalsOutcome

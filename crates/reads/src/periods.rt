@@ -1,59 +1,52 @@
-// Sums over the periods of one date and category, whose entries stand side by side from `first` on.
-use metering::calendar::lies_within;
-use store::access::entry_at;
+// The walk over a date's cells, and the day's figures by it.
+use metering::calendar::window_end;
+use metering::calendar::window_start;
 use store::cell::Flag;
-use store::cell::entry_flag;
-use store::cell::entry_value;
-ghost use Prim.Native.Nat.{_+_, _*_, _<_, _≤_};
-ghost use lib.ListN.{length, getD};
+use store::column::Column;
+use store::column::cell_at;
+ghost use mathlib.Core.Path.{_≡_};
+ghost use mathlib.Core.Logic.{_⊎_};
+ghost use Prim.Native.Nat.{_+_, _≤_};
 ghost use Rattle.ledger.specs.Method.{isFresh, isBlank};
-ghost use Rattle.ledger.specs.Store.{cellOfEntry};
 ghost use Rattle.store.specs.Cell.{flagMeant};
-ghost use Rattle.reads.specs.Column.{offPeak};
-ghost use Rattle.reads.specs.Sums.{Summed, Figure};
+ghost use Rattle.store.specs.Column.{Reaches};
+ghost use Rattle.reads.specs.Sums.{Figure};
+ghost use Rattle.reads.specs.Figures.{OffPeak, Walked, DayFigured};
 
-// An off-peak window by its minutes, and the period duration.
-pub struct OffPeak {
-    pub duration: u64,
-    pub start: u64,
-    pub end: u64,
+// Periods that stand side by side: how many come before them, and how many they are.
+pub struct Stretch {
+    pub first: u64,
+    pub count: u64,
 }
 
-pub fn value_sum(cells: &[u64], first: u64, periods: u64) -> u64
-    requires { ⌜ (first + periods ≤ length (now cells)) × (periods ≤ 96) ⌝ }
-    ensures { λ r. ⌜ Summed periods 4294967295 (λ k. cellOfEntry (getD (now (cells .entry)) (first + k) 0) .value) r ⌝ }
-{
-    let mut sum: u64 = 0;
-    let mut k: u64 = 0;
-    while k < periods {
-        sum += entry_value(entry_at(cells, first + k));
-        k += 1;
-    }
-    sum
+pub const NO_PERIOD: Stretch = Stretch { first: 0, count: 0 };
+
+// Sums over the cells of a stretch.
+struct StretchFigures {
+    value: u64,
+    fresh: u64,
+    blanks: u64,
 }
 
-// An entry's value where its period, the one after `k` others, lies in the window, else 0.
-fn off_value(entry: u64, window: OffPeak, k: u64) -> u64
-    requires { ⌜ (k < 96) × ((k + 1) * window .duration ≤ 1440) ⌝ }
-    ensures { λ r. ⌜ Figure 4294967295 (offPeak window k (cellOfEntry entry)) r ⌝ }
-{
-    if lies_within(window.duration, window.start, window.end, k + 1) {
-        return entry_value(entry);
-    }
-    0
+// TOT, OFF, FRESH and BLANK.
+pub struct DayFigures {
+    pub tot: u64,
+    pub off: u64,
+    pub fresh: u64,
+    pub blanks: u64,
 }
 
-pub fn off_sum(cells: &[u64], first: u64, periods: u64, window: OffPeak) -> u64
-    requires { ⌜ (first + periods ≤ length (now cells)) × (periods ≤ 96) × (periods * window .duration ≤ 1440) ⌝ }
-    ensures { λ r. ⌜ Summed periods 4294967295 (λ k. offPeak window k (cellOfEntry (getD (now (cells .entry)) (first + k) 0))) r ⌝ }
+// The periods in a category's window, by its number; a window starts and ends with a period.
+pub fn off_peak(duration: u64, number: u64) -> Stretch
+    requires { ⌜ (duration ≡ 15) ⊎ (duration ≡ 30) ⌝ }
+    ensures { λ r. ⌜ OffPeak duration number r ⌝ }
 {
-    let mut sum: u64 = 0;
-    let mut k: u64 = 0;
-    while k < periods {
-        sum += off_value(entry_at(cells, first + k), window, k);
-        k += 1;
+    let first = window_start(number) / duration;
+    let end = window_end(number) / duration;
+    Stretch {
+        first,
+        count: end - first,
     }
-    sum
 }
 
 fn fresh_number(flag: Flag) -> u64
@@ -78,28 +71,41 @@ pub fn blank_number(flag: Flag) -> u64
     }
 }
 
-pub fn fresh_count(cells: &[u64], first: u64, periods: u64) -> u64
-    requires { ⌜ (first + periods ≤ length (now cells)) × (periods ≤ 96) ⌝ }
-    ensures { λ r. ⌜ Summed periods 1 (λ k. isFresh (cellOfEntry (getD (now (cells .entry)) (first + k) 0) .flag)) r ⌝ }
+// Over `count` periods that come after `first` others.
+fn walk(cells: &[u64], column: Column, date: u64, first: u64, count: u64) -> StretchFigures
+    requires { ⌜ Reaches (now cells) column date × (first + count ≤ column .periods) ⌝ }
+    ensures { λ r. ⌜ Walked column (now (cells .entry)) date first count r ⌝ }
 {
-    let mut count: u64 = 0;
-    let mut k: u64 = 0;
-    while k < periods {
-        count += fresh_number(entry_flag(entry_at(cells, first + k)));
-        k += 1;
+    let mut value: u64 = 0;
+    let mut fresh: u64 = 0;
+    let mut blanks: u64 = 0;
+    let mut i: u64 = 0;
+    while i < count {
+        let cell = cell_at(cells, column, date, first + i);
+        let flag = cell.flag;
+        value += cell.value;
+        fresh += fresh_number(flag);
+        blanks += blank_number(flag);
+        i += 1;
     }
-    count
+    StretchFigures {
+        value,
+        fresh,
+        blanks,
+    }
 }
 
-pub fn blank_count(cells: &[u64], first: u64, periods: u64) -> u64
-    requires { ⌜ (first + periods ≤ length (now cells)) × (periods ≤ 96) ⌝ }
-    ensures { λ r. ⌜ Summed periods 1 (λ k. isBlank (cellOfEntry (getD (now (cells .entry)) (first + k) 0) .flag)) r ⌝ }
+// `window` is the off-peak periods, or none where OFF is not asked for.
+pub fn day_figures(cells: &[u64], column: Column, window: Stretch, date: u64) -> DayFigures
+    requires { ⌜ Reaches (now cells) column date × (window .first + window .count ≤ column .periods) ⌝ }
+    ensures { λ r. ⌜ DayFigured column window (now (cells .entry)) date r ⌝ }
 {
-    let mut count: u64 = 0;
-    let mut k: u64 = 0;
-    while k < periods {
-        count += blank_number(entry_flag(entry_at(cells, first + k)));
-        k += 1;
+    let day = walk(cells, column, date, 0, column.periods);
+    let off_peak = walk(cells, column, date, window.first, window.count);
+    DayFigures {
+        tot: day.value,
+        off: off_peak.value,
+        fresh: day.fresh,
+        blanks: day.blanks,
     }
-    count
 }

@@ -1,7 +1,6 @@
-// Registration: the checks in the table's order, each group a number, then one more registration in the meter's slot.
-use metering::mpan::mpan_valid;
+// Registration: the checks in pieces, each a number (0 says that all passed), then one more registration in the meter's slot.
 use metering::range::between;
-use store::lent::meters_unready;
+use store::meter_call::call_number;
 use store::meters::has_mpan;
 use store::meters::put_registration;
 use store::meters::slot_of;
@@ -15,14 +14,13 @@ use store::settings::meter_count;
 use store::settings::period_count;
 ghost use mathlib.Core.Path.{_≡_};
 ghost use mathlib.Core.Bool.{false, cond, _&&_};
-ghost use mathlib.Core.Option.{some};
 ghost use Prim.Native.Nat.{_<_, _≤_};
 ghost use lib.Dec.{leb};
 ghost use lib.ListN.{length};
 ghost use Rattle.store.specs.Outcome.{answerOf};
-ghost use Rattle.registration.specs.Registration.{registrationCall, callNumber};
+ghost use Rattle.registration.specs.Registration.{registrationCall};
 ghost use Rattle.ledger.specs.Sizes.{metersLength, readingsLength};
-ghost use Rattle.ledger.specs.Checks.{startOf, registrationInRange, meterNumber, anyBelow};
+ghost use Rattle.ledger.specs.Checks.{startOf, fieldsNumber, knownNumber, meterNumber, anyBelow};
 ghost use Rattle.ledger.specs.Store.{metersOf, categoriesOf, datesOf, slotOf, knownAt, registrationsAt, isHeldAt};
 ghost use Rattle.ledger.specs.Ledger.{answer, accepted, left};
 ghost use Rattle.ledger.specs.Calls.{metersUnready, slotFor, registrationsFor, heldFromAt, registrationVerdict, registeredMeters};
@@ -38,60 +36,27 @@ fn start_of(date: u64, minute: u64) -> u64
     date + 1
 }
 
-// No check looks at sender and limit, so the contracts have 0 in their places.
-fn in_range(dates: u64, categories: u64, date: u64, minute: u64, category: u64, status: u64) -> bool
-    requires { ⌜ date < 800 ⌝ }
-    ensures { λ r. ⌜ r ≡ registrationInRange dates categories (registrationCall 0 date minute category 0 status 0) ⌝ }
+// 16: a field out of range.
+fn fields_number(settings: &[u8], start: u64, minute: u64, category: u64, status: u64) -> u64
+    requires { ⌜ 8 ≤ length (now settings) ⌝ }
+    ensures { λ r. ⌜ r ≡ fieldsNumber (datesOf (now (settings .entry))) (categoriesOf (now (settings .entry))) start minute category status ⌝ }
 {
     if 1439 < minute {
-        return false;
+        return 16;
     }
-    if categories <= category {
-        return false;
+    if category_count(settings) <= category {
+        return 16;
     }
     if !between(1, 3, status) {
-        return false;
+        return 16;
     }
-    start_of(date, minute) < dates
-}
-
-// The checks that look at no meter: 1, 9, 6, 16; 0 says that all passed.
-fn call_number(
-    settings: &[u8],
-    meters: &[u64],
-    readings: &[u64],
-    mpan: u64,
-    date: u64,
-    minute: u64,
-    category: u64,
-    status: u64,
-) -> u64
-    ensures { λ r. ⌜ r ≡ callNumber (metersUnready (now (settings .entry)) (now (meters .entry)) (now (readings .entry))) (datesOf (now (settings .entry))) (categoriesOf (now (settings .entry))) (registrationCall mpan date minute category 0 status 0) ⌝ }
-{
-    if meters_unready(settings, meters, readings) {
-        return 1;
-    }
-    let dates = date_count(settings);
-    if dates <= date {
-        return 9;
-    }
-    if !mpan_valid(mpan) {
-        return 6;
-    }
-    if !in_range(
-        dates,
-        category_count(settings),
-        date,
-        minute,
-        category,
-        status,
-    ) {
+    if date_count(settings) <= start {
         return 16;
     }
     0
 }
 
-// The checks of a known meter: 10, 11, 12; 0 says that all passed.
+// 10, 11, 12, of a known meter.
 fn known_number(
     slots: u64,
     dates: u64,
@@ -102,7 +67,7 @@ fn known_number(
     start: u64,
 ) -> u64
     requires { ⌜ (slots ≤ 1024) × (slot < slots) × (metersLength slots ≤ length (now meters)) × (dates ≤ 800) × (periods ≤ 96) × (readingsLength slots dates periods ≤ length (now readings)) ⌝ }
-    ensures { λ r. ⌜ r ≡ meterNumber false start (anyBelow dates (λ d. leb start d && isHeldAt slots periods (now (readings .entry)) d slot)) (some (registrationsAt slots (now (meters .entry)) slot)) ⌝ }
+    ensures { λ r. ⌜ r ≡ knownNumber start (anyBelow dates (λ d. leb start d && isHeldAt slots periods (now (readings .entry)) d slot)) (registrationsAt slots (now (meters .entry)) slot) ⌝ }
 {
     if start_not_after_last(slots, meters, slot, start) {
         return 10;
@@ -116,7 +81,7 @@ fn known_number(
     0
 }
 
-// The checks that look at the slot of the MPAN: 8 where none is left, then those of a known meter.
+// 8, of an MPAN that no slot is left for, or those of a known meter.
 fn meter_number(
     settings: &[u8],
     meters: &[u64],
@@ -172,25 +137,23 @@ pub fn register(
     ensures answered { λ r. ⌜ answerOf r ≡ answer (registrationVerdict (now (settings .entry)) (now (meters .entry)) (now (readings .entry)) (registrationCall mpan date minute category sender status limit)) accepted ⌝ }
     ensures kept { λ r. ⌜ now (meters .exit) ≡ left (registrationVerdict (now (settings .entry)) (now (meters .entry)) (now (readings .entry)) (registrationCall mpan date minute category sender status limit)) (now (meters .entry)) (registeredMeters (now (settings .entry)) (now (meters .entry)) (now (readings .entry)) (registrationCall mpan date minute category sender status limit)) ⌝ }
 {
-    let failed = call_number(
-        settings,
-        meters,
-        readings,
-        mpan,
-        date,
-        minute,
-        category,
-        status,
-    );
-    if failed != 0 {
+    let call = call_number(settings, meters, readings, mpan, date);
+    if call != 0 {
         return Outcome::Refused {
-            number: failed,
+            number: call,
+            place: 0,
+        };
+    }
+    let start = start_of(date, minute);
+    let fields = fields_number(settings, start, minute, category, status);
+    if fields != 0 {
+        return Outcome::Refused {
+            number: fields,
             place: 0,
         };
     }
     let slots = meter_count(settings);
     let slot = slot_of(slots, mpan, meters);
-    let start = start_of(date, minute);
     let number = meter_number(settings, meters, readings, mpan, slot, start);
     if number != 0 {
         return Outcome::Refused { number, place: 0 };

@@ -1,16 +1,21 @@
 // The run of a date: its shapes from the readings held, and what later dates take over from them.
-mod carry;
+pub mod count;
+mod later;
+mod own_row;
+mod predecessor;
 
-use crate::carry::carry_on;
-use crate::carry::inherit;
-use crate::carry::row_length;
+use crate::later::write_later;
+use crate::own_row::write_date;
+use crate::predecessor::inherit;
 use run_date::sums::tally_date;
-use run_date::write::write_row;
 use run_rows::later::carry_row;
 use store::category::day_type;
 use store::entry::BLANK_ENTRY;
+use store::lent::run_unready;
 use store::outcome::RunOutcome;
-use store::settings;
+use store::rows::row_length;
+use store::rows::row_start;
+use store::settings::date_count;
 ghost use mathlib.Core.Path.{_≡_};
 ghost use mathlib.Core.Bool.{true};
 ghost use Prim.Native.Nat.{ℕ, _<_, _≤_};
@@ -18,52 +23,21 @@ ghost use lib.ListN.{length, getD};
 ghost use Rattle.ledger.specs.Method.{blank};
 ghost use Rattle.ledger.specs.Ledger.{answer, left, moved};
 ghost use Rattle.ledger.specs.Store.{settingsReady, metersReady, readingsReady, cellsReady, datesOf, rowLength, entryOf};
-ghost use Rattle.ledger.specs.Table.{tabulate};
-ghost use Rattle.ledger.specs.Calls.{rowAt, putRow, comparedEntry, differing, runVerdict, ranFrom};
+ghost use Rattle.ledger.specs.Calls.{putRow, settled, runVerdict, ranFrom};
 ghost use Rattle.run_date.specs.Sums.{Bounded, rowFrom};
 ghost use Rattle.store.specs.Outcome.{runAnswer};
-ghost use Rattle.run.specs.Walk.{settled};
 
 // The number of the first failed check; 0 for none.
 fn run_number(settings: &[u8], meters: &[u64], readings: &[u64], cells: &[u64], date: u64) -> u64
     ensures { λ r. ⌜ r ≡ runVerdict (now (settings .entry)) (now (meters .entry)) (now (readings .entry)) (now (cells .entry)) date .number ⌝ }
 {
-    if !settings::settings_ready(settings) {
+    if run_unready(settings, meters, readings, cells) {
         return 1;
     }
-    if !settings::meters_ready(settings, meters) {
-        return 1;
-    }
-    if !settings::readings_ready(settings, readings) {
-        return 1;
-    }
-    if !settings::cells_ready(settings, cells) {
-        return 1;
-    }
-    if settings::date_count(settings) <= date {
+    if date_count(settings) <= date {
         return 9;
     }
     0
-}
-
-// The date's stretch of cells, lent on to the row's writer.
-fn write_date(
-    settings: &[u8],
-    sums: &[u64],
-    counts: &[u64],
-    inherited: &[u64],
-    cells: &mut [u64],
-    date: u64,
-) -> u64
-    requires { ⌜ (settingsReady (now settings) ≡ true) × (cellsReady (now settings) (now cells) ≡ true) × (date < datesOf (now settings)) ⌝ }
-    requires { ⌜ (rowLength (now settings) ≤ length (now sums)) × (rowLength (now settings) ≤ length (now counts)) × (rowLength (now settings) ≤ length (now inherited)) × Bounded (now settings) (now sums) (now counts) ⌝ }
-    ensures { λ r. ⌜ now (cells .exit) ≡ putRow (rowLength (now (settings .entry))) date (tabulate (rowLength (now (settings .entry))) (rowFrom (now (settings .entry)) (now (sums .entry)) (now (counts .entry)) (now (inherited .entry)) date)) (now (cells .entry)) ⌝ }
-    ensures { λ r. ⌜ r ≡ differing (rowLength (now (settings .entry))) (λ k. comparedEntry (rowAt (rowLength (now (settings .entry))) (now (cells .entry)) date k)) (rowFrom (now (settings .entry)) (now (sums .entry)) (now (counts .entry)) (now (inherited .entry)) date) ⌝ }
-{
-    let row = row_length(settings) as usize;
-    let at = date as usize * row;
-    let end = at + row;
-    write_row(settings, sums, counts, inherited, date, &mut cells[at..end])
 }
 
 // The date's own cells first, then the later dates.
@@ -77,14 +51,13 @@ fn settle(
 ) -> u64
     requires { ⌜ (settingsReady (now settings) ≡ true) × (cellsReady (now settings) (now cells) ≡ true) × (date < datesOf (now settings)) ⌝ }
     requires { ⌜ (rowLength (now settings) ≤ length (now sums)) × (rowLength (now settings) ≤ length (now counts)) × (rowLength (now settings) ≤ length (now inherited)) × Bounded (now settings) (now sums) (now counts) ⌝ }
-    ensures { λ r. ⌜ now (cells .exit) ≡ (settled (now (settings .entry)) (now (sums .entry)) (now (counts .entry)) (now (inherited .entry)) (now (cells .entry)) date) .cells ⌝ }
-    ensures { λ r. ⌜ r ≡ (settled (now (settings .entry)) (now (sums .entry)) (now (counts .entry)) (now (inherited .entry)) (now (cells .entry)) date) .moved ⌝ }
+    ensures { λ r. ⌜ now (cells .exit) ≡ (settled putRow (now (settings .entry)) (rowFrom (now (settings .entry)) (now (sums .entry)) (now (counts .entry)) (now (inherited .entry)) date) (now (cells .entry)) date) .cells ⌝ }
+    ensures { λ r. ⌜ r ≡ (settled putRow (now (settings .entry)) (rowFrom (now (settings .entry)) (now (sums .entry)) (now (counts .entry)) (now (inherited .entry)) date) (now (cells .entry)) date) .moved ⌝ }
 {
     let moved = write_date(settings, sums, counts, &inherited[..], cells, date);
     let row = row_length(settings);
-    let at = date * row;
-    carry_row(&cells[..], at as usize, row as usize, inherited);
-    carry_on(
+    carry_row(&cells[..], row_start(row, date), row as usize, inherited);
+    write_later(
         settings,
         cells,
         day_type(settings, date),

@@ -4,6 +4,7 @@ use run_rows::sums::add_row;
 use store::category::de_minimis;
 use store::category::is_smart;
 use store::category::same_family;
+use store::rows::category_start;
 use store::settings::category_count;
 use store::settings::period_count;
 ghost use mathlib.Core.Path.{_≡_};
@@ -36,7 +37,7 @@ fn add_member(
         return;
     }
     let periods = period_count(settings);
-    let at = b * periods;
+    let at = category_start(b, periods);
     add_row(sums, at as usize, periods as usize, family_sums);
     add_row(counts, at as usize, periods as usize, family_counts);
 }
@@ -97,7 +98,7 @@ fn write_category(
         &mut family_sums,
         &mut family_counts,
     );
-    let at = category * period_count(settings);
+    let at = category_start(category, period_count(settings));
     shape_row(
         is_smart(settings, category),
         de_minimis(settings, category),
@@ -132,7 +133,7 @@ pub fn write_row(
     let mut moved: u64 = 0;
     let mut category: u64 = 0;
     while category < categories {
-        let at = (category * periods) as usize;
+        let at = category_start(category, periods) as usize;
         let end = at + periods as usize;
         moved += write_category(
             settings,

@@ -1,43 +1,33 @@
 -- Laws of lists made from a function, of sums and of counts of differences.
 use Prim.Native.Nat.{ℕ, zero, suc, _+_, _*_, _≤_, _<_, zero-le}
 use mathlib.Core.Path.{_≡_, sym, ap, _∙_}
-use mathlib.Core.Bool.{Bool, true, false, and-eq-true-iff}
 use mathlib.Core.List.{List, [], _∷_, _++_, append-assoc, append-nil}
 use native.Mathlib.Nat.{add-zero, add-suc, add-le-add, add-mul, suc-mul}
 use native.Mathlib.Numerals.{add-one}
 use native.Mathlib.Omega.{arith}
-use lib.Dec.{eqb, leb}
+use lib.Dec.{eqb}
 use lib.ListN.{length, getD, take, drop, List·getD-append}
-use lib.Seq.{drop-cons, getD-at, ext-getD, drop-length, getD-append-add, getD-drop, take-at, drop-at, drop-drop}
+use lib.Seq.{drop-cons, getD-at, drop-length, getD-append-add, getD-drop, take-at, drop-at, drop-drop}
 use borrow.Table.Steps.{cases}
-use borrow.Author.Tests.{eqb-true, eqb-false, leb-true}
-use Rattle.metering.specs.Laws.{average-le}
-use Rattle.metering.specs.Average.{average}
+use borrow.Author.Tests.{eqb-true, eqb-false}
 use Rattle.metering.specs.Sum.{sumBelow, sumBelow-suc, sumBelow-zero}
 use Rattle.ledger.proofs.Lists.{length-tabulate, getD-tabulate, tabulate-ext, filled, sumBelow-cong, sumBelow-more}
-use Rattle.ledger.specs.Method.{absent, own, pooled}
 use Rattle.ledger.specs.Table.{tabulate, filling}
 use Rattle.ledger.specs.Calls.{differing}
-use Rattle.run_rows.specs.Shape.{isEnough, Averaged, freshBy}
 use Rattle.run_rows.specs.Later.{differenceOf}
 
 -- ---- lists made from a function
 
-pub tabulate-add : (m n : ℕ) (f : ℕ → ℕ) → tabulate (m + n) f ≡ tabulate m f ++ tabulate n (λ k. f (m + k))
+tabulate-add : (m n : ℕ) (f : ℕ → ℕ) → tabulate (m + n) f ≡ tabulate m f ++ tabulate n (λ k. f (m + k))
 unfolding tabulate
 tabulate-add m zero f = rw add-zero (sym (append-nil (tabulate m f)))
 tabulate-add m (suc n) f = rw (add-suc m n, tabulate-add m n f) (append-assoc (tabulate m f) (tabulate n (λ k. f (m + k))) (f (m + n) ∷ []))
-
-pub tabulate-getD : (xs : List ℕ) (f : ℕ → ℕ) → ((k : ℕ) → k < length xs → f k ≡ getD xs k 0) → tabulate (length xs) f ≡ xs
-tabulate-getD xs f h =
-    ext-getD 0 (tabulate (length xs) f) xs (length-tabulate (length xs) f)
-    (λ k l. let low : k < length xs = rw (length-tabulate (length xs) f) at l in getD-tabulate (length xs) f k low ∙ h k low)
 
 -- ---- rows while they are filled
 
 module _ (f : ℕ → ℕ) (xs : List ℕ) where
   -- the next place is as it was
-  pub filling-at : (k : ℕ) → k < length xs → getD (filling k f xs) k 0 ≡ getD xs k 0
+  filling-at : (k : ℕ) → k < length xs → getD (filling k f xs) k 0 ≡ getD xs k 0
   unfolding filling
   filling-at k h = rw (drop-cons xs k 0 h) (getD-at (tabulate k f) (getD xs k 0) (drop (suc k) xs) 0 k (length-tabulate k f))
 
@@ -45,7 +35,7 @@ module _ (f : ℕ → ℕ) (xs : List ℕ) where
   unfolding filling
   filling-below n k h = List·getD-append (tabulate n f) (drop n xs) 0 k (rw (length-tabulate n f) h) ∙ getD-tabulate n f k h
 
-  pub filling-all : filling (length xs) f xs ≡ tabulate (length xs) f
+  filling-all : filling (length xs) f xs ≡ tabulate (length xs) f
   unfolding filling
   filling-all = rw (drop-length xs) (append-nil (tabulate (length xs) f))
 
@@ -101,7 +91,7 @@ pub differing-zero : (f g : ℕ → ℕ) → differing 0 f g ≡ 0
 unfolding differing
 differing-zero f g = sumBelow-zero _
 
-pub differing-suc : (n : ℕ) (f g : ℕ → ℕ) → differing (suc n) f g ≡ differing n f g + differenceOf (f n) (g n)
+differing-suc : (n : ℕ) (f g : ℕ → ℕ) → differing (suc n) f g ≡ differing n f g + differenceOf (f n) (g n)
 unfolding differing differenceOf
 differing-suc n f g = sumBelow-suc n _
 
@@ -136,29 +126,3 @@ differing-none (suc n) f g h k l =
     cases (eqb k n)
     (λ e. let is = eqb-true k n e in rw is (differenceOf-zero (f n) (g n) (omega arith)))
     (λ e. let no : k ≡ n → ⊥ = eqb-false k n e in differing-none n f g (omega arith) k (omega arith))
-
--- ---- averages
-
-pub enough-count : (n m : ℕ) → isEnough n m ≡ true → 1 ≤ n
-unfolding isEnough
-enough-count n m e = leb-true 1 n (and-eq-true-iff (leb 1 n) (leb m n) .0 e .0)
-
-pub average-bound : (s n : ℕ) → 1 ≤ n → Averaged s n → average s n < 4294967296
-average-bound s n low a = omega (arith, average-le s n 4294967295 low (a .sum))
-
-module _ (smart : Bool) (m s n S K : ℕ) where
-  pub fresh-own : isEnough n m ≡ true → freshBy smart m s n S K ≡ own (average s n) n
-  unfolding freshBy
-  fresh-own e = rw e
-
-  pub fresh-pooled : isEnough n m ≡ false → smart ≡ true → isEnough K m ≡ true → freshBy smart m s n S K ≡ pooled (average S K) K
-  unfolding freshBy
-  fresh-pooled few e k = rw (few, e, k)
-
-  pub fresh-absent : isEnough n m ≡ false → smart ≡ true → isEnough K m ≡ false → freshBy smart m s n S K ≡ absent
-  unfolding freshBy
-  fresh-absent few e k = rw (few, e, k)
-
-  pub fresh-advanced : isEnough n m ≡ false → smart ≡ false → freshBy smart m s n S K ≡ absent
-  unfolding freshBy
-  fresh-advanced few e = rw (few, e)

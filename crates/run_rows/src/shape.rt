@@ -1,13 +1,16 @@
 // A category's row of the date that is run.
 use crate::moved::difference;
 use metering::average::average_up;
+use store::cell::Cell;
+use store::cell::entry_of;
 use store::entry;
 ghost use mathlib.Core.Path.{_≡_};
 ghost use Prim.Native.Nat.{ℕ, _+_, _<_, _≤_};
 ghost use lib.ListN.{length, getD};
+ghost use Rattle.ledger.specs.Method.{isEnough, freshOf};
 ghost use Rattle.ledger.specs.Table.{tabulate};
 ghost use Rattle.ledger.specs.Calls.{rowEntry, comparedEntry, differing};
-ghost use Rattle.run_rows.specs.Shape.{isEnough, freshBy, shapeAt, Averaged};
+ghost use Rattle.run_rows.specs.Shape.{shapeAt, Averaged};
 
 fn enough(count: u64, de_minimis: u64) -> bool
     ensures { λ r. ⌜ r ≡ isEnough count «de_minimis» ⌝ }
@@ -32,14 +35,14 @@ fn shape_entry(
     requires { ⌜ date < 1024 ⌝ }
     requires { ⌜ Averaged sum count ⌝ }
     requires { ⌜ Averaged «family_sum» «family_count» ⌝ }
-    ensures { λ r. ⌜ r ≡ rowEntry date (freshBy smart «de_minimis» sum count «family_sum» «family_count») inherited ⌝ }
+    ensures { λ r. ⌜ r ≡ rowEntry date (freshOf smart «de_minimis» sum count «family_sum» «family_count») inherited ⌝ }
 {
     if enough(count, de_minimis) {
-        return entry::entry_of(1, average_up(sum, count), count, date);
+        return entry_of(Cell::own(date, average_up(sum, count), count));
     }
     if smart {
         if enough(family_count, de_minimis) {
-            return entry::entry_of(2, average_up(family_sum, family_count), family_count, date);
+            return entry_of(Cell::pooled(date, average_up(family_sum, family_count), family_count));
         }
     }
     inherited

@@ -1,4 +1,6 @@
 // The command program, with parts for 3 categories, 4 meters, 384 date-periods and 8 day types.
+use commands::Capacity;
+
 fn main() {
     let mut category_records = [0u8; 24];
     let mut day_types = [0u8; 8];
@@ -13,7 +15,9 @@ fn main() {
         &mut meters,
         &mut readings,
         &mut cells,
-        4,
-        384,
+        Capacity {
+            meters: 4,
+            date_periods: 384,
+        },
     );
 }

@@ -1,5 +1,7 @@
 // The command program with parts for 8 categories, 8 meters and 370 dates of 96 periods, for what
 // the standard ones have no room for.
+use commands::Capacity;
+
 fn main() {
     let mut category_records = [0u8; 64];
     let mut day_types = [0u8; 370];
@@ -14,7 +16,9 @@ fn main() {
         &mut meters,
         &mut readings,
         &mut cells,
-        8,
-        35520,
+        Capacity {
+            meters: 8,
+            date_periods: 35520,
+        },
     );
 }

@@ -1,4 +1,6 @@
 -- Laws that the store's proofs share.
+pub mod ColumnLaws
 pub mod Laws
 pub mod LentLaws
+pub mod RowLaws
 pub mod WritingLaws

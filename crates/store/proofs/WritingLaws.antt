@@ -1,5 +1,5 @@
--- What sizes that are in range give, and the settings as they are written.
-use Prim.Native.Nat.{ℕ, _+_, _*_, _/_, _%_, _≤_}
+-- The settings as an opening writes them: its numbers fit into two bytes each, and what is written side by side is one list.
+use Prim.Native.Nat.{ℕ, _+_, _*_, _≤_, _<_}
 use mathlib.Core.Path.{_≡_, refl, _∙_}
 use mathlib.Core.Bool.{true}
 use mathlib.Core.List.{List, _++_}
@@ -7,58 +7,41 @@ use mathlib.Core.Logic.{⊎-elim}
 use native.Mathlib.Omega.{arith}
 use lib.ListN.{length, length-append}
 use lib.Seq.{sets, sets-eq}
-use borrow.Author.Tests.{eqb-true}
-use Rattle.metering.specs.Range.{metersInRange, categoriesInRange, datesInRange}
-use Rattle.metering.specs.Calendar.{durationKnown}
-use Rattle.metering.specs.Laws.{between-true, duration-is}
-use Rattle.ledger.specs.Sizes.{settingsLength}
-use Rattle.ledger.specs.Store.{wordBytes}
+use Rattle.ledger.specs.Sizes.{headerLength, settingsLength}
+use Rattle.ledger.specs.Opening.{Opening, categories, dates}
+use Rattle.ledger.specs.Store.{wordBytes, headerBytes}
 use Rattle.ledger.specs.Checks.{sizesValid}
-use Rattle.ledger.specs.Ready.{both}
 use Rattle.ledger.specs.Calls.{openedSettings}
 use Rattle.ledger.proofs.Lists.{sets-append}
-use Rattle.store.specs.Settings.{openingCall}
+use Rattle.ledger.proofs.Open.{sizes-valid}
 
-pub record Sized (duration M : ℕ) (bytes dayTypes : List ℕ) : Type 0 where
-  pub known : durationKnown duration ≡ true
-  pub short : duration ≤ 30
-  pub meters : M ≤ 1024
-  pub whole : length bytes % 8 ≡ 0
-  pub categories : length bytes / 8 ≤ 64
-  pub dates : length dayTypes ≤ 800
+module _ (a : Opening) where
+  pub words-fit : sizesValid a ≡ true → (a .duration < 65536) × (a .meters < 65536) × (categories a < 65536) × (dates a < 65536)
+  words-fit h =
+      let v = sizes-valid a h in
+      (⊎-elim (λ e. omega arith) (λ e. omega arith) (v .duration), omega arith, omega arith, omega arith)
 
-pub sized : (d M : ℕ) (bytes dayTypes : List ℕ) → sizesValid d M bytes dayTypes ≡ true → Sized d M bytes dayTypes
-unfolding sizesValid metersInRange categoriesInRange datesInRange
-sized d M bytes dayTypes h =
-    let p = both _ _ h in
-    let q = both _ _ (p .0) in
-    let r = both _ _ (q .0) in
-    let t = both _ _ (r .0) in
-    record {
-      known = t .0;
-      short = ⊎-elim (λ e. omega arith) (λ e. omega arith) (duration-is d (t .0));
-      meters = between-true 1 1024 M .0 (t .1) .1;
-      whole = eqb-true _ _ (r .1);
-      categories = between-true 1 64 _ .0 (q .1) .1;
-      dates = between-true 1 800 _ .0 (p .1) .1;
-    }
+  -- the numbers of the header, one behind the other
+  pub header-written : (s : List ℕ) {d m c t : List ℕ} → d ≡ sets s 0 (wordBytes (a .duration)) → m ≡ sets d 2 (wordBytes (a .meters)) → c ≡ sets m 4 (wordBytes (categories a))
+      → t ≡ sets c 6 (wordBytes (dates a)) → t ≡ sets s 0 (headerBytes a)
+  unfolding headerBytes wordBytes
+  header-written s first second third fourth = rw (fourth, third, second, first)
 
--- the four numbers side by side
-pub header-written : (d M C T : ℕ) (s : List ℕ)
-    → sets (sets (sets (sets s 0 (wordBytes d)) 2 (wordBytes M)) 4 (wordBytes C)) 6 (wordBytes T)
-    ≡ sets s 0 (wordBytes d ++ wordBytes M ++ wordBytes C ++ wordBytes T)
-unfolding wordBytes
-header-written d M C T s = refl
+  header-long : length (headerBytes a) ≡ headerLength
+  unfolding headerBytes wordBytes
+  header-long = refl
 
--- and the records and day types after them
-pub settings-written : (d M : ℕ) (bytes dayTypes s : List ℕ) → length bytes % 8 ≡ 0 → settingsLength (length bytes / 8) (length dayTypes) ≤ length s
-    → sets (sets (sets s 0 (wordBytes d ++ wordBytes M ++ wordBytes (length bytes / 8) ++ wordBytes (length dayTypes))) 8 bytes) (8 + length bytes) dayTypes
-    ≡ openedSettings (openingCall d M bytes dayTypes) s
-unfolding wordBytes settingsLength openedSettings
-settings-written d M bytes dayTypes s whole long =
-    let w = wordBytes d ++ wordBytes M ++ wordBytes (length bytes / 8) ++ wordBytes (length dayTypes) in
-    let n : length (w ++ bytes) ≡ 8 + length bytes = length-append w bytes in
-    let i : 0 + length (w ++ bytes) ≡ 8 + length bytes = omega arith in
-    let k : 0 + length (w ++ bytes ++ dayTypes) ≡ 8 + 8 * (length bytes / 8) + length dayTypes = omega (arith, n, length-append (w ++ bytes) dayTypes) in
-    rw (sets-append s w bytes 0)
-    (rw i at (sets-append s (w ++ bytes) dayTypes 0) ∙ rw k at (sets-eq (w ++ bytes ++ dayTypes) s 0 (rw k long)))
+  -- and the records and day types behind them
+  pub settings-written : (s : List ℕ) {header records types : List ℕ} → sizesValid a ≡ true → settingsLength (categories a) (dates a) ≤ length s
+      → header ≡ sets s 0 (headerBytes a) → records ≡ sets header headerLength (a .categoryBytes) → types ≡ sets records (headerLength + length (a .categoryBytes)) (a .dayTypes)
+      → types ≡ openedSettings a s
+  unfolding settingsLength openedSettings
+  settings-written s valid long first second third =
+      let h = headerBytes a in
+      let b = a .categoryBytes in
+      let whole = sizes-valid a valid .whole in
+      let i : 0 + length h ≡ headerLength = omega (arith, header-long) in
+      let n : 0 + length (h ++ b) ≡ headerLength + length b = omega (arith, i, length-append h b) in
+      let k : 0 + length (h ++ b ++ a .dayTypes) ≡ headerLength + 8 * categories a + dates a = omega (arith, n, length-append (h ++ b) (a .dayTypes)) in
+      rw (third, second, first, rw i at (sets-append s h b 0))
+      (rw n at (sets-append s (h ++ b) (a .dayTypes) 0) ∙ rw k at (sets-eq (h ++ b ++ a .dayTypes) s 0 (rw k long)))

@@ -2,6 +2,7 @@
 pub mod Access
 pub mod Bounds
 pub mod Cell
+pub mod Column
 pub mod Entry
 pub mod Meters
 pub mod Outcome

@@ -1,20 +1,22 @@
 // A kept category record's fields, and the day types.
 use crate::access::byte_at;
 use crate::settings::category_count;
+use crate::sizes::HEADER_LENGTH;
 ghost use mathlib.Core.Path.{_≡_};
 ghost use mathlib.Core.Bool.{true};
 ghost use Prim.Native.Nat.{_+_, _*_, _<_};
 ghost use lib.ListN.{drop};
 ghost use Rattle.store.specs.Access.{Byte};
+ghost use Rattle.ledger.specs.Sizes.{headerLength};
 ghost use Rattle.ledger.specs.Method.{isSmart, sameFamily};
 ghost use Rattle.ledger.specs.Net.{withQuantity, onSide};
 ghost use Rattle.ledger.specs.Store.{categoriesOf, datesOf, categoryOf, dayTypeOf, settingsReady};
 
 fn category_byte(settings: &[u8], category: u64, k: u64) -> u64
     requires { ⌜ (settingsReady (now settings) ≡ true) × (category < categoriesOf (now settings)) × (k < 8) ⌝ }
-    ensures { λ r. ⌜ Byte (drop 8 (now (settings .entry))) (8 * category + k) r ⌝ }
+    ensures { λ r. ⌜ Byte (drop headerLength (now (settings .entry))) (8 * category + k) r ⌝ }
 {
-    byte_at(settings, 8 + (8 * category + k))
+    byte_at(settings, HEADER_LENGTH + (8 * category + k))
 }
 
 pub fn is_smart(settings: &[u8], category: u64) -> bool
@@ -91,5 +93,8 @@ pub fn day_type(settings: &[u8], date: u64) -> u64
     requires { ⌜ (settingsReady (now settings) ≡ true) × (date < datesOf (now settings)) ⌝ }
     ensures { λ r. ⌜ r ≡ dayTypeOf (now (settings .entry)) date ⌝ }
 {
-    byte_at(settings, 8 + 8 * category_count(settings) + date)
+    byte_at(
+        settings,
+        HEADER_LENGTH + 8 * category_count(settings) + date,
+    )
 }

@@ -1,8 +1,9 @@
-// A cell by value, taken out of its entry.
+// A cell by value, and the two leaves that know its entry's encoding: `cell_of_entry` reads, `entry_of` puts.
 use crate::run_mark::flag_number;
 ghost use mathlib.Core.Path.{_≡_};
 ghost use Prim.Native.Nat.{_<_};
-ghost use Rattle.ledger.specs.Store.{flagOf, cellOfEntry};
+ghost use Rattle.ledger.specs.Method.{flagNumber, blank, ownCell, pooledCell, isOwnCell, carried};
+ghost use Rattle.ledger.specs.Store.{flagOf, entryOf, cellOfEntry};
 ghost use Rattle.store.specs.Cell.{flagMeant, cellMeant};
 
 pub enum Flag {
@@ -17,6 +18,72 @@ pub struct Cell {
     pub value: u64,
     pub count: u64,
     pub origin: u64,
+}
+
+impl Cell {
+    // The average of a category's own readings on the date.
+    pub fn own(date: u64, value: u64, count: u64) -> Cell
+        ensures { λ r. ⌜ cellMeant r ≡ ownCell date value count ⌝ }
+    {
+        Cell {
+            flag: Flag::A,
+            value,
+            count,
+            origin: date,
+        }
+    }
+
+    // The average over its family.
+    pub fn pooled(date: u64, value: u64, count: u64) -> Cell
+        ensures { λ r. ⌜ cellMeant r ≡ pooledCell date value count ⌝ }
+    {
+        Cell {
+            flag: Flag::D,
+            value,
+            count,
+            origin: date,
+        }
+    }
+
+    pub fn blank() -> Cell
+        ensures { λ r. ⌜ cellMeant r ≡ blank ⌝ }
+    {
+        Cell {
+            flag: Flag::N,
+            value: 0,
+            count: 0,
+            origin: 65535,
+        }
+    }
+
+    // Whether it is its date's own shape.
+    pub fn is_own(self) -> bool
+        ensures { λ r. ⌜ r ≡ isOwnCell (cellMeant self) ⌝ }
+    {
+        let flag = self.flag;
+        match flag {
+            Flag::A => true,
+            Flag::D => true,
+            Flag::E => false,
+            Flag::N => false,
+        }
+    }
+
+    // What a later date takes over: the same under flag E, and nothing from nothing.
+    pub fn carried(self) -> Cell
+        ensures { λ r. ⌜ cellMeant r ≡ carried (cellMeant self) ⌝ }
+    {
+        let flag = self.flag;
+        match flag {
+            Flag::N => Cell::blank(),
+            _ => Cell {
+                flag: Flag::E,
+                value: self.value,
+                count: self.count,
+                origin: self.origin,
+            },
+        }
+    }
 }
 
 fn flag_of(number: u64) -> Flag
@@ -34,26 +101,33 @@ fn flag_of(number: u64) -> Flag
     Flag::N
 }
 
-pub fn entry_flag(entry: u64) -> Flag
-    ensures { λ r. ⌜ flagMeant r ≡ cellOfEntry entry .flag ⌝ }
+fn number_of(flag: Flag) -> u64
+    ensures { λ r. ⌜ r ≡ flagNumber (flagMeant flag) ⌝ }
 {
-    flag_of(flag_number(entry))
-}
-
-pub fn entry_value(entry: u64) -> u64
-    ensures { λ r. ⌜ (r ≡ cellOfEntry entry .value) × (r < 4294967296) ⌝ }
-{
-    entry / 4294967296
+    match flag {
+        Flag::A => 1,
+        Flag::D => 2,
+        Flag::E => 3,
+        Flag::N => 4,
+    }
 }
 
 pub fn cell_of_entry(entry: u64) -> Cell
     ensures { λ r. ⌜ cellMeant r ≡ cellOfEntry entry ⌝ }
 {
-    let flag = entry_flag(entry);
+    let flag = flag_of(flag_number(entry));
     Cell {
         flag,
         value: entry / 4294967296,
         count: entry / 8 % 8192,
         origin: entry / 65536 % 65536,
     }
+}
+
+pub fn entry_of(cell: Cell) -> u64
+    requires { ⌜ entryOf (cellMeant cell) < 18446744073709551616 ⌝ }
+    ensures { λ r. ⌜ r ≡ entryOf (cellMeant cell) ⌝ }
+{
+    let flag = cell.flag;
+    number_of(flag) + 8 * cell.count + 65536 * cell.origin + 4294967296 * cell.value
 }

@@ -1,9 +1,10 @@
-// Whether the parts that registration and reception are lent can be read: opened, and long enough.
+// Whether the parts that a call is lent can be read: opened, and long enough.
+use crate::settings::cells_ready;
 use crate::settings::meters_ready;
 use crate::settings::readings_ready;
 use crate::settings::settings_ready;
 ghost use mathlib.Core.Path.{_≡_};
-ghost use Rattle.ledger.specs.Calls.{metersUnready};
+ghost use Rattle.ledger.specs.Calls.{metersUnready, runUnready, cellsUnready};
 
 pub fn meters_unready(settings: &[u8], meters: &[u64], readings: &[u64]) -> bool
     ensures { λ r. ⌜ r ≡ metersUnready (now (settings .entry)) (now (meters .entry)) (now (readings .entry)) ⌝ }
@@ -15,4 +16,22 @@ pub fn meters_unready(settings: &[u8], meters: &[u64], readings: &[u64]) -> bool
         return true;
     }
     !readings_ready(settings, readings)
+}
+
+pub fn run_unready(settings: &[u8], meters: &[u64], readings: &[u64], cells: &[u64]) -> bool
+    ensures { λ r. ⌜ r ≡ runUnready (now (settings .entry)) (now (meters .entry)) (now (readings .entry)) (now (cells .entry)) ⌝ }
+{
+    if meters_unready(settings, meters, readings) {
+        return true;
+    }
+    !cells_ready(settings, cells)
+}
+
+pub fn cells_unready(settings: &[u8], cells: &[u64]) -> bool
+    ensures { λ r. ⌜ r ≡ cellsUnready (now (settings .entry)) (now (cells .entry)) ⌝ }
+{
+    if !settings_ready(settings) {
+        return true;
+    }
+    !cells_ready(settings, cells)
 }

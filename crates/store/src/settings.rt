@@ -1,5 +1,6 @@
-// The settings part: duration, M, C and T, the category records and the day types.
+// The settings part: its header, the category records and the day types.
 use crate::access::byte_at;
+use crate::sizes::HEADER_LENGTH;
 use crate::sizes::cells_length;
 use crate::sizes::meters_length;
 use crate::sizes::readings_length;
@@ -9,16 +10,16 @@ use crate::writing::put_word;
 use metering::calendar;
 use metering::range;
 ghost use mathlib.Core.Path.{_≡_};
-ghost use mathlib.Core.List.{_++_};
 ghost use mathlib.Core.Bool.{true};
-ghost use Prim.Native.Nat.{_+_, _*_, _/_, _<_, _≤_};
+ghost use Prim.Native.Nat.{_+_, _*_, _<_, _≤_};
 ghost use lib.ListN.{length};
 ghost use lib.Seq.{sets};
-ghost use Rattle.ledger.specs.Sizes.{settingsLength};
+ghost use Rattle.ledger.specs.Sizes.{headerLength, settingsLength};
+ghost use Rattle.ledger.specs.Opening.{categories, dates};
 ghost use Rattle.ledger.specs.Checks.{sizesValid};
 ghost use Rattle.ledger.specs.Calls.{openedSettings};
 ghost use Rattle.store.specs.Settings.{openingCall};
-ghost use Rattle.ledger.specs.Store.{word, wordBytes, durationOf, metersOf, categoriesOf, datesOf, periodsOf, isOpened, settingsReady, metersReady, readingsReady, cellsReady};
+ghost use Rattle.ledger.specs.Store.{word, headerBytes, durationOf, metersOf, categoriesOf, datesOf, periodsOf, isOpened, settingsReady, metersReady, readingsReady, cellsReady};
 
 fn word(settings: &[u8], k: u64) -> u64
     requires { ⌜ 2 * k + 1 < length (now settings) ⌝ }
@@ -28,35 +29,35 @@ fn word(settings: &[u8], k: u64) -> u64
 }
 
 pub fn duration(settings: &[u8]) -> u64
-    requires { ⌜ 8 ≤ length (now settings) ⌝ }
+    requires { ⌜ headerLength ≤ length (now settings) ⌝ }
     ensures { λ r. ⌜ r ≡ durationOf (now (settings .entry)) ⌝ }
 {
     word(settings, 0)
 }
 
 pub fn meter_count(settings: &[u8]) -> u64
-    requires { ⌜ 8 ≤ length (now settings) ⌝ }
+    requires { ⌜ headerLength ≤ length (now settings) ⌝ }
     ensures { λ r. ⌜ r ≡ metersOf (now (settings .entry)) ⌝ }
 {
     word(settings, 1)
 }
 
 pub fn category_count(settings: &[u8]) -> u64
-    requires { ⌜ 8 ≤ length (now settings) ⌝ }
+    requires { ⌜ headerLength ≤ length (now settings) ⌝ }
     ensures { λ r. ⌜ r ≡ categoriesOf (now (settings .entry)) ⌝ }
 {
     word(settings, 2)
 }
 
 pub fn date_count(settings: &[u8]) -> u64
-    requires { ⌜ 8 ≤ length (now settings) ⌝ }
+    requires { ⌜ headerLength ≤ length (now settings) ⌝ }
     ensures { λ r. ⌜ r ≡ datesOf (now (settings .entry)) ⌝ }
 {
     word(settings, 3)
 }
 
 fn opened(settings: &[u8]) -> bool
-    requires { ⌜ 8 ≤ length (now settings) ⌝ }
+    requires { ⌜ headerLength ≤ length (now settings) ⌝ }
     ensures { λ r. ⌜ r ≡ isOpened (now (settings .entry)) ⌝ }
 {
     if !calendar::duration_known(duration(settings)) {
@@ -71,12 +72,12 @@ fn opened(settings: &[u8]) -> bool
     range::dates_in_range(date_count(settings))
 }
 
-// A store of any bytes: fewer than eight are too few to read its numbers.
+// A store of any bytes: fewer than the header's are too few to read its numbers.
 pub fn settings_ready(settings: &[u8]) -> bool
     ensures { λ r. ⌜ r ≡ settingsReady (now (settings .entry)) ⌝ }
 {
     let length = settings.len() as u64;
-    if length < 8 {
+    if length < HEADER_LENGTH {
         return false;
     }
     if !opened(settings) {
@@ -123,36 +124,36 @@ pub fn cells_ready(settings: &[u8], cells: &[u64]) -> bool
     least <= cells.len() as u64
 }
 
-// Four numbers of two bytes.
-fn write_header(settings: &mut [u8], duration: u64, meter_count: u64, categories: u64, dates: u64)
-    requires { ⌜ (8 ≤ length (now settings)) × (duration < 65536) × («meter_count» < 65536) × (categories < 65536) × (dates < 65536) ⌝ }
-    ensures { λ r. ⌜ now (settings .exit) ≡ sets (now (settings .entry)) 0 (wordBytes duration ++ wordBytes «meter_count» ++ wordBytes categories ++ wordBytes dates) ⌝ }
-{
-    put_word(settings, 0, duration);
-    put_word(settings, 2, meter_count);
-    put_word(settings, 4, categories);
-    put_word(settings, 6, dates);
+// The numbers of an opening. Its category records and day types are lent beside them.
+pub struct OpeningTerms {
+    pub duration: u64,
+    pub meters: u64,
 }
 
-// The opening's sizes, category records and day types.
+// Four numbers of two bytes.
+fn write_header(settings: &mut [u8], terms: OpeningTerms, category_records: &[u8], day_types: &[u8])
+    requires { ⌜ sizesValid (openingCall terms (now «category_records») (now «day_types»)) ≡ true ⌝ }
+    requires { ⌜ headerLength ≤ length (now settings) ⌝ }
+    ensures { λ r. ⌜ now (settings .exit) ≡ sets (now (settings .entry)) 0 (headerBytes (openingCall terms (now («category_records» .entry)) (now («day_types» .entry)))) ⌝ }
+{
+    put_word(settings, 0, terms.duration);
+    put_word(settings, 2, terms.meters);
+    put_word(settings, 4, (category_records.len() / 8) as u64);
+    put_word(settings, 6, day_types.len() as u64);
+}
+
 pub fn write_settings(
     settings: &mut [u8],
-    duration: u64,
-    meter_count: u64,
+    terms: OpeningTerms,
     category_records: &[u8],
     day_types: &[u8],
 )
-    requires { ⌜ sizesValid duration «meter_count» (now «category_records») (now «day_types») ≡ true ⌝ }
-    requires { ⌜ settingsLength (length (now «category_records») / 8) (length (now «day_types»)) ≤ length (now settings) ⌝ }
-    ensures { λ r. ⌜ now (settings .exit) ≡ openedSettings (openingCall duration «meter_count» (now («category_records» .entry)) (now («day_types» .entry))) (now (settings .entry)) ⌝ }
+    requires { ⌜ sizesValid (openingCall terms (now «category_records») (now «day_types»)) ≡ true ⌝ }
+    requires { ⌜ settingsLength (categories (openingCall terms (now «category_records») (now «day_types»))) (dates (openingCall terms (now «category_records») (now «day_types»))) ≤ length (now settings) ⌝ }
+    ensures { λ r. ⌜ now (settings .exit) ≡ openedSettings (openingCall terms (now («category_records» .entry)) (now («day_types» .entry))) (now (settings .entry)) ⌝ }
 {
-    write_header(
-        settings,
-        duration,
-        meter_count,
-        (category_records.len() / 8) as u64,
-        day_types.len() as u64,
-    );
-    copy(settings, 8, category_records);
-    copy(settings, 8 + category_records.len(), day_types);
+    let records = HEADER_LENGTH as usize;
+    write_header(settings, terms, category_records, day_types);
+    copy(settings, records, category_records);
+    copy(settings, records + category_records.len(), day_types);
 }

@@ -3,11 +3,14 @@ ghost use mathlib.Core.Path.{_≡_};
 ghost use Prim.Native.Nat.{_≤_};
 ghost use Rattle.ledger.specs.Sizes.{settingsLength, metersLength, readingsLength, cellsLength};
 
+// Of the settings, before the category records.
+pub const HEADER_LENGTH: u64 = 8;
+
 pub fn settings_length(categories: u64, dates: u64) -> u64
     requires { ⌜ (categories ≤ 64) × (dates ≤ 800) ⌝ }
     ensures { λ r. ⌜ r ≡ settingsLength categories dates ⌝ }
 {
-    8 + 8 * categories + dates
+    HEADER_LENGTH + 8 * categories + dates
 }
 
 pub fn meters_length(meters: u64) -> u64

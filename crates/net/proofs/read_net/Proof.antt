@@ -1,10 +1,54 @@
--- `net::read_net` meets its contract: the first failed check's number, or the net. Assumes nothing.
-use mathlib.Core.Path.{refl, sym, _∙_}
+-- `read_net` meets its contract: the first failed check's number, or the net.
+use Prim.Native.Nat.{_<_}
+use mathlib.Core.Path.{_≡_, refl, sym, _∙_}
 use borrow.Author.Needs.{needs}
-use Rattle.net.proofs.CheckLaws.{range-passed, pair-passed}
-use Rattle.net.proofs.ReadLaws.{found-among, refuses, by-range, by-pair, accepts}
+use denote.Ref.{now}
+use lib.ListN.{length}
+use Rattle.ledger.specs.Store.{categoriesOf, datesOf}
+use Rattle.ledger.specs.Calls.{netVerdict}
+use Rattle.reads.specs.ReadAccepted.{ReadAccepted}
+use Rattle.net.specs.Asked.{netCall}
+use Rattle.net.proofs.CheckLaws.{Long, range-passed, pair-passed}
+use Rattle.net.proofs.NetLaws.{net-asked}
+use Rattle.net.proofs.ReadLaws.{may-write, refuses, by-range, by-pair, accepts}
 use Rattle.net.proofs.read_net.Statement.{statement}
 use Rattle.net.proofs.read_net.Tie as tie
+
+abbrev start : tie.Else1 → tie.Start
+start c = c .before .before .before .before .before
+
+abbrev ranged : tie.After-members → tie.Else1
+ranged c = c .before .before
+
+abbrev found : tie.After-pair-number → tie.After-members
+found c = c .before
+
+abbrev paired : tie.After-column-of → tie.Else2
+paired c = c .before .before .before
+
+in-range : (c : tie.Else1) → let a = start c .args in
+    Long (now (a .settings)) (now (a .cells)) (length (now (a .numbers))) (length (now (a .marks))) × (a .date < datesOf (now (a .settings))) × (a .category < categoriesOf (now (a .settings)))
+in-range c = range-passed _ _ _ _ _ _ (sym (c .before .range-number .ensures) ∙ c .if1 .left)
+
+-- the number of the last checks is the verdict's
+decides : (c : tie.After-pair-number) → let a = start (ranged (found c)) .args in
+    c .pair-number .result ≡ netVerdict (now (a .settings)) (now (a .cells)) (netCall (a .all-groups) (a .date) (a .category) (now (a .numbers)) (now (a .marks))) .number
+decides c =
+    let m = found c in
+    let r = ranged m in
+    let a = start r .args in
+    by-pair (now (a .settings)) (now (a .cells)) (a .all-groups) (a .date) (a .category) (now (a .numbers)) (now (a .marks)) _ _ _ _ (r .before .range-number .ensures) (r .if1 .left) (m .members .ensures) (c .pair-number .ensures)
+
+passed : (c : tie.Else2) → let a = start (ranged (found (c .before))) .args in ReadAccepted (now (a .settings)) (now (a .cells)) (a .date) (a .category)
+passed c =
+    let ok = in-range (ranged (found (c .before))) in
+    record {
+      opened = ok .0 .opened;
+      complete = ok .0 .complete;
+      date = ok .1;
+      category = ok .2;
+      run = pair-passed _ _ _ _ _ _ (c .before .pair-number .ensures) (c .if2 .left);
+    }
 
 range-number-requires : tie.Need-range-number-requires
 range-number-requires c κs = search needs
@@ -12,52 +56,35 @@ range-number-requires c κs = search needs
 returns : tie.Need-returns
 returns c =
     let a = c .before .before .before .before .before .args in
-    refuses (a .settings .now) (a .cells .now) (a .all-groups) (a .date) (a .category) (a .numbers .now) (a .marks .now) _
-    (by-range (a .settings .now) (a .cells .now) (a .all-groups) (a .date) (a .category) (a .numbers .now) (a .marks .now) _ (c .before .range-number .ensures) (c .if1 .taken))
+    refuses (now (a .settings)) (now (a .cells)) (a .all-groups) (a .date) (a .category) (now (a .numbers)) (now (a .marks)) _
+    (by-range (now (a .settings)) (now (a .cells)) (a .all-groups) (a .date) (a .category) (now (a .numbers)) (now (a .marks)) _ (c .before .range-number .ensures) (c .if1 .taken))
     (c .if1 .taken)
 
 members-requires : tie.Need-members-requires
-members-requires c κs =
-    let range = c .before in
-    let ok = range-passed _ _ _ _ _ _ (sym (range .before .range-number .ensures) ∙ range .if1 .left) in
-    (ok .0 .opened, ok .2, refl)
+members-requires c κs = let ok = in-range (c .before) in (ok .0 .opened, ok .2, refl)
 
 pair-number-requires : tie.Need-pair-number-requires
-pair-number-requires c κs =
-    let range = c .before .before in
-    let ok = range-passed _ _ _ _ _ _ (sym (range .before .range-number .ensures) ∙ range .if1 .left) in
-    (ok .0 .opened, ok .0 .complete, ok .1, ok .2)
+pair-number-requires c κs = let ok = in-range (ranged c) in (ok .0 .opened, ok .0 .complete, ok .1, ok .2)
 
 returns-2 : tie.Need-returns-2
 returns-2 c =
-    let found = c .before .before in
-    let range = found .before .before in
-    let a = c .before .before .before .before .before .before .before .before .before .args in
-    refuses (a .settings .now) (a .cells .now) (a .all-groups) (a .date) (a .category) (a .numbers .now) (a .marks .now) _
-    (by-pair (a .settings .now) (a .cells .now) (a .all-groups) (a .date) (a .category) (a .numbers .now) (a .marks .now) _ _ _ _ (range .before .range-number .ensures) (range .if1 .left) (found .members .ensures) (c .before .pair-number .ensures))
-    (c .if2 .taken)
+    let a = start (ranged (found (c .before))) .args in
+    refuses (now (a .settings)) (now (a .cells)) (a .all-groups) (a .date) (a .category) (now (a .numbers)) (now (a .marks)) _ (decides (c .before)) (c .if2 .taken)
 
 members-requires-2 : tie.Need-members-requires-2
-members-requires-2 c κs =
-    let range = c .before .before .before .before .before in
-    let ok = range-passed _ _ _ _ _ _ (sym (range .before .range-number .ensures) ∙ range .if1 .left) in
-    (ok .0 .opened, ok .2, refl)
+members-requires-2 c κs = let p = passed (c .before) in (p .opened, p .category, refl)
+
+column-of-requires : tie.Need-column-of-requires
+column-of-requires c κs = passed (c .before .before) .opened
 
 net-of-requires : tie.Need-net-of-requires
 net-of-requires c κs =
-    let pair = c .before .before .before .before .before .before in
-    let range = c .before .before .before .before .before .before .before .before .before .before in
-    let ok = range-passed _ _ _ _ _ _ (sym (range .before .range-number .ensures) ∙ range .if1 .left) in
-    record {
-      opened = ok .0 .opened;
-      complete = ok .0 .complete;
-      date-is = ok .1;
-      run = pair-passed _ _ _ _ _ _ (pair .before .pair-number .ensures) (pair .if2 .left);
-      imported = found-among _ _ _ _ _ _ (c .before .before .before .before .members2 .ensures);
-      exported = found-among _ _ _ _ _ _ (c .before .before .before .before .before .before .before .before .members .ensures);
-      numbers-long = ok .0 .numbers-long;
-      marks-long = ok .0 .marks-long;
-    }
+    let col = c .before .before .before .before in
+    let pair = paired col in
+    let m = found (pair .before) in
+    let a = start (ranged m) .args in
+    let ok = in-range (ranged m) in
+    may-write (now (a .settings)) (now (a .cells)) (a .all-groups) (a .date) (a .category) (col .column-of .ensures) (passed pair) (col .before .members2 .ensures) (m .members .ensures) (ok .0 .numbers-long) (ok .0 .marks-long)
 
 same-length : tie.Need-same-length
 same-length c = search needs
@@ -67,16 +94,16 @@ same-length-2 c = search needs
 
 returns-3 : tie.Need-returns-3
 returns-3 c =
-    let range = c .before .before .before .before .before .before .before .before .before .before .before .before .before .before in
-    let found = c .before .before .before .before .before .before .before .before .before .before .before .before in
-    let pair = c .before .before .before .before .before .before .before .before .before .before in
-    let a = c .before .before .before .before .before .before .before .before .before .before .before .before .before .before .before .before .before .before .before .args in
-    accepts (a .settings .now) (a .cells .now) (a .all-groups) (a .date) (a .category) (a .numbers .now) (a .marks .now) _ _ _ _ _ _ _ _ _
-    (by-pair (a .settings .now) (a .cells .now) (a .all-groups) (a .date) (a .category) (a .numbers .now) (a .marks .now) _ _ _ _ (range .before .range-number .ensures) (range .if1 .left) (found .members .ensures) (pair .before .pair-number .ensures))
+    let col = c .before .before .before .before .before .before .before .before in
+    let pair = paired col in
+    let m = found (pair .before) in
+    let a = start (ranged m) .args in
+    accepts (now (a .settings)) (now (a .cells)) (a .all-groups) (a .date) (a .category) (now (a .numbers)) (now (a .marks)) _ _ _ _ _ _ _ _ _
+    (decides (pair .before))
     (pair .if2 .left)
-    (c .before .before .before .before .before .before .before .before .members2 .ensures)
-    (found .members .ensures)
-    (c .before .before .before .net-of .ensures)
+    (col .before .members2 .ensures)
+    (m .members .ensures)
+    (net-asked _ _ (a .category) _ _ _ (col .column-of .ensures) (c .before .before .before .net-of .ensures))
 
 pub read-net-spec : {M : Type 1} → statement M
 read-net-spec =
@@ -88,6 +115,7 @@ read-net-spec =
     pair-number-requires
     returns-2
     members-requires-2
+    column-of-requires
     net-of-requires
     same-length
     same-length-2

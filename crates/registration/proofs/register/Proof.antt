@@ -1,12 +1,55 @@
--- `register` meets its contract: each answer, with what is left, by the law of the checks that led to it.
-use borrow.Author.Needs.{needs}
-use mathlib.Core.Path.{refl}
+-- `register` meets its contract: each answer, with what is left, from the verdict that the pieces checked so far give.
+use Prim.Native.Nat.{_<_}
+use mathlib.Core.Path.{_≡_, refl, sym, _∙_}
 use native.Mathlib.Omega.{arith}
+use denote.Ref.{now}
+use borrow.Author.Needs.{needs}
+use Rattle.ledger.specs.Checks.{RegistrationCall, verdict, callNumber}
 use Rattle.ledger.specs.Sizes.{metersLength}
-use Rattle.store.proofs.LentLaws.{lent}
-use Rattle.registration.proofs.Laws.{call-passed, refused-by-call, refused-by-meter, accepted-with, meter-passed, slot-is, used-below}
+use Rattle.ledger.specs.Store.{metersOf, datesOf}
+use Rattle.ledger.specs.Calls.{metersUnready, slotFor, usedOf, registrationsFor, registrationVerdict}
+use Rattle.ledger.proofs.Choices.{call-passed}
+use Rattle.store.proofs.LentLaws.{Lent, lent}
+use Rattle.registration.specs.Registration.{registrationCall}
+use Rattle.registration.proofs.Laws.{slot-is, meter-passed, verdict-call, verdict-fields, verdict-meter, refused-with, accepted-with, used-below}
 use Rattle.registration.proofs.register.Statement.{statement}
 use Rattle.registration.proofs.register.Tie as tie
+
+abbrev start : tie.Else1 → tie.Start
+start c = c .before .before .before .before .before .before
+
+abbrev call : tie.Start → RegistrationCall
+call c = let a = c .args in registrationCall (a .mpan) (a .date) (a .minute) (a .category) (a .sender) (a .status) (a .limit)
+
+-- where 1, 9 and 6 passed, and where 16 did
+abbrev called : tie.After-slot-of → tie.Else1
+called c = c .before .before .before .before .before .before
+
+abbrev ranged : tie.After-slot-of → tie.Else2
+ranged c = c .before .before .before
+
+abbrev found : tie.After-meter-number → tie.After-slot-of
+found c = c .before .before
+
+passed : (c : tie.Else1) → let a = start c .args in callNumber (metersUnready (now (a .settings)) (now (a .meters)) (now (a .readings))) (datesOf (now (a .settings))) (a .mpan) (a .date) ≡ 0
+passed c = sym (c .before .call-number .ensures) ∙ c .if1 .left
+
+parts : (c : tie.Else1) → let a = start c .args in Lent (now (a .settings)) (now (a .meters)) (now (a .readings))
+parts c = lent _ _ _ refl (call-passed _ _ _ _ (passed c) .long)
+
+slot : (c : tie.After-slot-of) → let a = start (called c) .args in c .slot-of .result ≡ slotFor (now (a .settings)) (now (a .meters)) (now (a .readings)) (a .mpan)
+slot c = slot-is _ _ _ _ _ _ (c .before .before .meter-count .ensures) (c .slot-of .ensures)
+
+verdict-is : (c : tie.After-meter-number) → let s = start (called (found c)) in let a = s .args in
+    registrationVerdict (now (a .settings)) (now (a .meters)) (now (a .readings)) (call s) ≡ verdict (c .meter-number .result)
+verdict-is c =
+    let f = ranged (found c) in
+    verdict-meter _ _ _ _ (passed (called (found c))) _ (f .before .before .start-of .ensures) (f .before .fields-number .ensures) (f .if2 .left) _ (slot (found c)) (c .meter-number .ensures)
+
+-- where all passed there is a slot, with room for one more
+room : (c : tie.Else3) → let b = found (c .before) in let a = start (called b) .args in
+    (b .slot-of .result < metersOf (now (a .settings))) × (usedOf (registrationsFor (now (a .settings)) (now (a .meters)) (now (a .readings)) (a .mpan)) < 8)
+room c = meter-passed _ _ _ _ _ (slot (found (c .before))) _ (sym (c .before .meter-number .ensures) ∙ c .if3 .left)
 
 call-number-requires : tie.Need-call-number-requires
 call-number-requires c κs = search needs
@@ -15,86 +58,68 @@ same-length : tie.Need-same-length
 same-length c = search needs
 
 returns : tie.Need-returns
-returns c = refused-by-call _ _ _ _ _ _ _ _ _ _ _ (c .before .call-number .ensures) (c .if1 .taken)
-
-meter-count-requires : tie.Need-meter-count-requires
-meter-count-requires c κs =
-    let q = call-passed _ _ _ _ _ _ _ _ (c .before .call-number .ensures) (c .if1 .left) in
-    let k = lent _ _ _ refl (q .0) in
-    omega arith
-
-slot-of-requires : tie.Need-slot-of-requires
-unfolding metersLength
-slot-of-requires c κs =
-    let c1 = c .before .before in
-    let q = call-passed _ _ _ _ _ _ _ _ (c1 .before .call-number .ensures) (c1 .if1 .left) in
-    let k = lent _ _ _ refl (q .0) in
-    omega arith
+returns c = refused-with _ _ _ _ _ (verdict-call _ _ _ (call (c .before .before .before .before .before .before)) (c .before .call-number .ensures) (c .if1 .taken)) (c .if1 .taken)
 
 start-of-requires : tie.Need-start-of-requires
 start-of-requires c κs =
-    let c1 = c .before .before .before in
-    let q = call-passed _ _ _ _ _ _ _ _ (c1 .before .call-number .ensures) (c1 .if1 .left) in
-    let k = lent _ _ _ refl (q .0) in
+    let d = call-passed _ _ _ _ (passed c) .dated in
+    let k = parts c in
     omega arith
 
-meter-number-requires : tie.Need-meter-number-requires
-meter-number-requires c κs =
-    let c0 = c .before .before in
-    let c1 = c0 .before .before .before in
-    let q = call-passed _ _ _ _ _ _ _ _ (c1 .before .call-number .ensures) (c1 .if1 .left) in
-    (q .0, slot-is _ _ _ _ _ _ (c0 .before .before .meter-count .ensures) (c0 .slot-of .ensures))
+fields-number-requires : tie.Need-fields-number-requires
+fields-number-requires c κs = let k = parts (c .before) in omega arith
 
 same-length-2 : tie.Need-same-length-2
 same-length-2 c = search needs
 
 returns-2 : tie.Need-returns-2
 returns-2 c =
-    let c0 = c .before .before .before .before in
-    let c1 = c0 .before .before .before in
-    let slot = slot-is _ _ _ _ _ _ (c0 .before .before .meter-count .ensures) (c0 .slot-of .ensures) in
-    refused-by-meter _ _ _ _ _ _ _ _ _ _ _ (c1 .before .call-number .ensures) (c1 .if1 .left) _ _ _ slot
-    (c .before .before .before .start-of .ensures) (c .before .meter-number .ensures) (c .if2 .taken)
+    let f = c .before in
+    let e = f .before .before in
+    refused-with _ _ _ _ _ (verdict-fields _ _ _ (call (start e)) (passed e) _ (f .before .start-of .ensures) (f .fields-number .ensures) (c .if2 .taken)) (c .if2 .taken)
 
-used-by-requires : tie.Need-used-by-requires
-used-by-requires c κs =
-    let c2 = c .before in
-    let c0 = c2 .before .before .before .before in
-    let c1 = c0 .before .before .before in
-    let s = c1 .before .before .before .before .before .before .args in
-    let slots = c0 .before .before .meter-count .ensures in
-    let slot = slot-is (s .settings .now) (s .meters .now) (s .readings .now) _ _ _ slots (c0 .slot-of .ensures) in
-    let q = call-passed _ _ _ _ _ _ _ _ (c1 .before .call-number .ensures) (c1 .if1 .left) in
-    let k = lent _ _ _ refl (q .0) in
-    let p = meter-passed _ _ _ _ _ _ slot (c2 .before .meter-number .ensures) (c2 .if2 .left) in
-    (omega arith, omega arith, rw slots (k .meters), c0 .slot-of .ensures)
+meter-count-requires : tie.Need-meter-count-requires
+meter-count-requires c κs = let k = parts (c .before .before .before) in omega arith
 
-put-registration-requires : tie.Need-put-registration-requires
-put-registration-requires c κs =
-    let c2 = c .before .before .before in
-    let c0 = c2 .before .before .before .before in
-    let c1 = c0 .before .before .before in
-    let s = c1 .before .before .before .before .before .before .args in
-    let slots = c0 .before .before .meter-count .ensures in
-    let slot = slot-is (s .settings .now) (s .meters .now) (s .readings .now) _ _ _ slots (c0 .slot-of .ensures) in
-    let q = call-passed _ _ _ _ _ _ _ _ (c1 .before .call-number .ensures) (c1 .if1 .left) in
-    let k = lent _ _ _ refl (q .0) in
-    let p = meter-passed _ _ _ _ _ _ slot (c2 .before .meter-number .ensures) (c2 .if2 .left) in
-    (omega arith, omega arith, rw slots (k .meters), used-below _ _ _ _ _ _ _ slots slot (c .before .used-by .ensures) (p .1))
+slot-of-requires : tie.Need-slot-of-requires
+unfolding metersLength
+slot-of-requires c κs = let k = parts (c .before .before .before .before .before) in omega (arith, c .before .meter-count .ensures)
+
+meter-number-requires : tie.Need-meter-number-requires
+meter-number-requires c κs = (call-passed _ _ _ _ (passed (called (c .before))) .long, slot (c .before))
 
 same-length-3 : tie.Need-same-length-3
 same-length-3 c = search needs
 
 returns-3 : tie.Need-returns-3
-returns-3 c =
-    let c2 = c .before .before .before .before .before .before in
-    let c0 = c2 .before .before .before .before in
-    let c1 = c0 .before .before .before in
-    let slots = c0 .before .before .meter-count .ensures in
-    let slot = slot-is _ _ _ _ _ _ slots (c0 .slot-of .ensures) in
-    accepted-with _ _ _ _ _ _ _ _ _ _ _ (c1 .before .call-number .ensures) (c1 .if1 .left) _ _ _ slot (c2 .before .before .before .start-of .ensures)
-    (c2 .before .meter-number .ensures) (c2 .if2 .left) _ _ slots (c .before .before .before .before .used-by .ensures)
-    (c .before .before .put-registration .ensures)
+returns-3 c = refused-with _ _ _ _ _ (verdict-is (c .before)) (c .if3 .taken)
+
+used-by-requires : tie.Need-used-by-requires
+used-by-requires c κs =
+    let b = found (c .before .before) in
+    let k = parts (called b) in
+    let e = b .before .before .meter-count .ensures in
+    (rw e (k .known .meters .1), rw e (room (c .before) .0), rw e (k .meters), b .slot-of .ensures)
+
+put-registration-requires : tie.Need-put-registration-requires
+put-registration-requires c κs =
+    let d = c .before .before .before in
+    let b = found (d .before) in
+    let k = parts (called b) in
+    let e = b .before .before .meter-count .ensures in
+    (rw e (k .known .meters .1), rw e (room d .0), rw e (k .meters), used-below _ _ _ _ _ _ _ e (slot b) (c .before .used-by .ensures) (room d .1))
+
+same-length-4 : tie.Need-same-length-4
+same-length-4 c = search needs
+
+returns-4 : tie.Need-returns-4
+returns-4 c =
+    let w = c .before .before in
+    let u = w .before .before in
+    let d = u .before .before in
+    let b = found (d .before) in
+    accepted-with _ _ _ _ _ (verdict-is (d .before)) (d .if3 .left) _ _ _ _ (b .before .before .meter-count .ensures) (slot b) (u .used-by .ensures)
+    (ranged b .before .before .start-of .ensures) (w .put-registration .ensures)
 
 pub register-spec : {M : Type 1} → statement M
 register-spec =
@@ -103,13 +128,16 @@ register-spec =
     call-number-requires
     same-length
     returns
-    meter-count-requires
-    slot-of-requires
     start-of-requires
-    meter-number-requires
+    fields-number-requires
     same-length-2
     returns-2
+    meter-count-requires
+    slot-of-requires
+    meter-number-requires
+    same-length-3
+    returns-3
     used-by-requires
     put-registration-requires
-    same-length-3
-    returns-3)
+    same-length-4
+    returns-4)

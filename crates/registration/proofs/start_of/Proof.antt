@@ -1,4 +1,4 @@
--- `start_of` meets its contract.
+-- `start_of` meets its contract: the definition computes from the test.
 use borrow.Author.Needs.{needs}
 use borrow.Author.Tests.{eq-eqb, ne-eqb}
 use Rattle.ledger.specs.Checks.{startOf}

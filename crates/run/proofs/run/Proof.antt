@@ -5,9 +5,11 @@ use Rattle.ledger.specs.Ledger.{moved}
 use Rattle.ledger.specs.Calls.{runVerdict}
 use Rattle.ledger.proofs.Verdicts.{refused-is, kept-is, given-is, after-is}
 use Rattle.run.proofs.Laws.{accepted-run, run-place}
-use borrow.Author.Needs.{needs}
 use Rattle.run.proofs.run.Statement.{statement}
 use Rattle.run.proofs.run.Tie as tie
+
+abbrev start : tie.After-run-number → tie.Start
+start c = c .before .before .before .before .before .before
 
 run-number-requires : tie.Need-run-number-requires
 run-number-requires c κs = search needs
@@ -17,7 +19,7 @@ same-length c = search needs
 
 returns : tie.Need-returns
 returns c =
-    let a = c .before .before .before .before .before .before .before .args in
+    let a = start (c .before) .args in
     let v = runVerdict (a .settings .now) (a .meters .now) (a .readings .now) (a .cells .now) (a .date) in
     let is : c .before .run-number .result ≡ v .number = c .before .run-number .ensures in (
       refused-is v _ is _ (run-place (a .settings .now) (a .meters .now) (a .readings .now) (a .cells .now) (a .date)) (c .if1 .taken),
@@ -26,7 +28,7 @@ returns c =
 
 run-date-requires : tie.Need-run-date-requires
 run-date-requires c κs =
-    let a = c .before .before .before .before .before .before .before .before .args in
+    let a = start (c .before .before) .args in
     accepted-run (a .settings .now) (a .meters .now) (a .readings .now) (a .cells .now) (a .date)
     (sym (c .before .before .run-number .ensures) ∙ c .before .if1 .left)
 
@@ -35,11 +37,14 @@ same-length-2 c = search needs
 
 returns-2 : tie.Need-returns-2
 returns-2 c =
-    let a = c .before .before .before .before .before .before .before .before .before .before .before .args in
+    let d = c .before .before in
+    let n = d .before .before .before in
+    let a = start n .args in
     let v = runVerdict (a .settings .now) (a .meters .now) (a .readings .now) (a .cells .now) (a .date) in
-    let is : c .before .before .before .before .before .run-number .result ≡ v .number = c .before .before .before .before .before .run-number .ensures in
-    let e = c .before .before .run-date .ensures in
-    (ap moved (e .1) ∙ given-is v _ is _ (c .before .before .before .before .if1 .left), e .0 ∙ after-is v _ is _ _ (c .before .before .before .before .if1 .left))
+    let is : n .run-number .result ≡ v .number = n .run-number .ensures in
+    let passed = d .before .before .if1 .left in
+    let e = d .run-date .ensures in
+    (ap moved (e .1) ∙ given-is v _ is _ passed, e .0 ∙ after-is v _ is _ _ passed)
 
 pub run-spec : {M : Type 1} → statement M
 run-spec =

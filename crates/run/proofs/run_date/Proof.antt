@@ -8,7 +8,6 @@ use native.Mathlib.Nat.{le-trans}
 use Rattle.ledger.specs.Method.{blank}
 use Rattle.ledger.specs.Store.{entryOf}
 use Rattle.run_date.proofs.Laws.{row-bounds}
-use borrow.Author.Needs.{needs}
 use Rattle.run.proofs.run_date.Statement.{statement}
 use Rattle.run.proofs.run_date.Tie as tie
 

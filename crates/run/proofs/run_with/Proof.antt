@@ -5,10 +5,15 @@ use Rattle.ledger.specs.Ready.{ready}
 use Rattle.ledger.specs.Method.{wattHours, present}
 use Rattle.ledger.specs.Calls.{Ran}
 use Rattle.run_date.proofs.Laws.{tallied-zero}
-use Rattle.run.proofs.Laws.{tallied-bounded, new-is, settled-is}
-use borrow.Author.Needs.{needs}
+use Rattle.run.proofs.Laws.{tallied-bounded, new-is, ran-is}
 use Rattle.run.proofs.run_with.Statement.{statement}
 use Rattle.run.proofs.run_with.Tie as tie
+
+abbrev summed : tie.After-inherit → tie.After-tally-date
+summed c = c .before .before .before .before .before .before .before
+
+abbrev start : tie.After-tally-date → tie.Start
+start c = c .before .before .before .before .before .before .before .before .before .before
 
 tally-date-requires : tie.Need-tally-date-requires
 tally-date-requires c κs =
@@ -26,20 +31,21 @@ tally-date-requires c κs =
 
 inherit-requires : tie.Need-inherit-requires
 inherit-requires c κs =
-    let s = c .before .before .before .before .before .before .before .before .before .before .before .before .before .before .before .before in
+    let s = start (c .before .before .before .before .before .before) in
     ((s .pre .0 .0, s .pre .0 .3), ((s .pre .0 .4, s .pre .1 .0 .2), λ k l. s .pre .1 .1 k l .2))
 
 settle-requires : tie.Need-settle-requires
 settle-requires c κs =
-    let s = c .before .before .before .before .before .before .before .before .before .before .before .before .before .before .before .before .before .before .before .before .before .before .before in
+    let i = c .before .before .before .before .before .before in
+    let tallied = summed i .tally-date in
+    let s = start (summed i) in
     let a = s .args in
-    let S = a .settings .now in
-    let tallied = c .before .before .before .before .before .before .before .before .before .before .before .before .before .tally-date in (
+    let S = a .settings .now in (
       (s .pre .0 .0, s .pre .0 .3, s .pre .0 .4),
       (
         rw (tallied .kept .1 .1 .1 .1 .0) (s .pre .1 .0 .0),
         rw (tallied .kept .1 .1 .1 .1 .1 .0) (s .pre .1 .0 .1),
-        rw (c .before .before .before .before .before .before .inherit .kept .1 .1 .1 .0) (s .pre .1 .0 .2),
+        rw (i .inherit .kept .1 .1 .1 .0) (s .pre .1 .0 .2),
         tallied-bounded S (a .meters .now) (a .readings .now) (a .date) (ready S (s .pre .0 .0)) _ _ (tallied .ensures .0) (tallied .ensures .1),
       ),
     )
@@ -58,16 +64,15 @@ same-length-4 c = search needs
 
 returns : tie.Need-returns
 returns c =
-    let s = c .before .before .before .before .before .before .before .before .before .before .before .before .before .before .before .before .before .before .before .before .before .before .before .before .before .before .before .before in
+    let i = c .before .before .before .before .before .before .before .before .before .before .before in
+    let tallied = summed i .tally-date in
+    let s = start (summed i) in
     let a = s .args in
     let S = a .settings .now in
-    let tallied = c .before .before .before .before .before .before .before .before .before .before .before .before .before .before .before .before .before .before .tally-date in
     let new =
     new-is S (a .meters .now) (a .readings .now) (a .date) (ready S (s .pre .0 .0)) (tallied .last .1 .1 .1 .1 .0) (tallied .last .1 .1 .1 .1 .1 .0)
-    (tallied .ensures .0) (tallied .ensures .1) (a .cells .now) (c .before .before .before .before .before .before .before .before .before .before .before .inherit .last .1 .1 .1 .0) (c .before .before .before .before .before .before .before .before .before .before .before .inherit .ensures) in
-    let is =
-    settled-is S (a .meters .now) (a .readings .now) (a .cells .now) (tallied .last .1 .1 .1 .1 .0) (tallied .last .1 .1 .1 .1 .1 .0)
-    (c .before .before .before .before .before .before .before .before .before .before .before .inherit .last .1 .1 .1 .0) (a .date) new in
+    (tallied .ensures .0) (tallied .ensures .1) (a .cells .now) (i .inherit .last .1 .1 .1 .0) (i .inherit .ensures) in
+    let is = ran-is S (a .meters .now) (a .readings .now) (a .cells .now) _ (a .date) new in
     let e = c .before .before .before .before .settle .ensures in
     (e .0 ∙ ap (λ (x : Ran). x .cells) is, e .1 ∙ ap (λ (x : Ran). x .moved) is)
 

@@ -21,7 +21,7 @@ returns : tie.Need-returns
 returns c =
     let room = c .before .before .before .before .before .with-room .ensures in
     let put = c .before .before .append .ensures in
-    (omega (arith, put .end, room .line), line-printed _ _ _ _ _ _ _ room put)
+    (omega (arith, put .end, room .line), line-printed room put)
 
 pub append-bad-spec : {M : Type 1} → statement M
 append-bad-spec =

@@ -1,21 +1,30 @@
+-- `session::obey` meets its contract: an 11 or a 12 is collected, a 10 uses up what is collected, any other command asks the store; the line goes behind what waits.
 use native.Mathlib.Omega.{arith}
 use denote.Ref.{now}
 use mathlib.Core.Path.{refl, sym}
 use lib.Seq.{length-take-le}
-use Rattle.console.proofs.Laws.{some-there, opening-there, category-there, day-type-there, operand-length, collects-category, collects-day-type, uses-up, asks, opening-line, asked-line, category-printed, day-type-printed, printed}
-use Rattle.console.specs.Commands.{Most, State, most}
+use Rattle.commands.specs.Commands.{State}
+use Rattle.commands.proofs.Laws.{some-there, opening-there, category-there, day-type-there, collects-category, collects-day-type, uses-up, asks, opening-appended, asked-appended}
+use Rattle.console.proofs.Laws.{line-printed, operand-length, category-printed, day-type-printed}
 use Rattle.console.specs.Session.{stateOf}
 use borrow.Author.Needs.{needs}
 use Rattle.console.proofs.session.obey.Statement.{statement}
 use Rattle.console.proofs.session.obey.Tie as tie
 
-abbrev limits : tie.Start → Most
-limits s = most (s .args .most-meters) (s .args .most-date-periods)
-
 abbrev begun : tie.Start → State
 begun s =
     let a = s .args in
     stateOf (a .session) (now (a .category-records)) (now (a .day-types)) (now (a .settings)) (now (a .meters)) (now (a .readings)) (now (a .cells))
+
+-- the entry, from an 11, from a 12, and from where a line is made room for
+abbrev collecting : tie.Then1 → tie.Start
+collecting c = c .before .before .before .before .before .before .before .before .before .before
+
+abbrev collecting-day-type : tie.Then2 → tie.Start
+collecting-day-type c = c .before .before .before .before .before .before .before .before .before .before .before
+
+abbrev start : tie.After-with-room → tie.Start
+start c = c .before .before .before .before .before .before .before .before .before .before .before .before .before
 
 shared-slice-read-code : tie.Need-shared-slice-read-code
 shared-slice-read-code c = some-there _ (c .before .before .before .before .before .before .before .before .before .pre .0)
@@ -27,11 +36,11 @@ part-append-start : tie.Need-part-append-start
 part-append-start c = search needs
 
 part-append-end : tie.Need-part-append-end
-part-append-end c = category-there _ (c .before .before .before .before .before .before .before .before .before .before .before .pre .0) (c .before .if1 .taken)
+part-append-end c = category-there _ (collecting (c .before) .pre .0) (c .before .if1 .taken)
 
 append-requires : tie.Need-append-requires
 append-requires c κs =
-    let s = c .before .before .before .before .before .before .before .before .before .before .before .before in
+    let s = collecting (c .before .before) in
     let code = c .before .before .if1 .taken in
     omega (arith, s .pre .1 .1 .category code, operand-length 8 (now (s .args .command)) (category-there _ (s .pre .0) code))
 
@@ -40,9 +49,10 @@ same-length c = search needs
 
 returns : tie.Need-returns
 returns c =
-    let s = c .before .before .before .before .before .before .before .before .before .before .before .before .before .before .before in
+    let t = c .before .before .before .before .before in
+    let s = collecting t in
     let held = s .pre .1 .0 in
-    let code = c .before .before .before .before .before .if1 .taken in
+    let code = t .if1 .taken in
     let more = operand-length 8 (now (s .args .command)) (category-there _ (s .pre .0) code) in
     let put = c .before .before .append .ensures in (
       record {
@@ -51,7 +61,7 @@ returns c =
         categories = omega (arith, s .pre .1 .1 .category code, more, put .end);
         dayTypes = held .dayTypes;
       },
-      ((refl, refl), (collects-category (limits s) (begun s) (now (s .args .command)) _ code (put .held), category-printed (limits s) (begun s) (now (s .args .command)) _ code)),
+      ((refl, refl), (collects-category (s .args .capacity) (begun s) (now (s .args .command)) _ code (put .held), category-printed (s .args .capacity) (begun s) (now (s .args .command)) _ code)),
     )
 
 sub-append-2 : tie.Need-sub-append-2
@@ -61,11 +71,11 @@ part-append-start-2 : tie.Need-part-append-start-2
 part-append-start-2 c = search needs
 
 part-append-end-2 : tie.Need-part-append-end-2
-part-append-end-2 c = day-type-there _ (c .before .before .before .before .before .before .before .before .before .before .before .before .pre .0) (c .before .if2 .taken)
+part-append-end-2 c = day-type-there _ (collecting-day-type (c .before) .pre .0) (c .before .if2 .taken)
 
 append-requires-2 : tie.Need-append-requires-2
 append-requires-2 c κs =
-    let s = c .before .before .before .before .before .before .before .before .before .before .before .before .before in
+    let s = collecting-day-type (c .before .before) in
     let code = c .before .before .if2 .taken in
     omega (arith, s .pre .1 .1 .dayType code, operand-length 1 (now (s .args .command)) (day-type-there _ (s .pre .0) code))
 
@@ -74,9 +84,10 @@ same-length-2 c = search needs
 
 returns-2 : tie.Need-returns-2
 returns-2 c =
-    let s = c .before .before .before .before .before .before .before .before .before .before .before .before .before .before .before .before in
+    let t = c .before .before .before .before .before in
+    let s = collecting-day-type t in
     let held = s .pre .1 .0 in
-    let code = c .before .before .before .before .before .if2 .taken in
+    let code = t .if2 .taken in
     let more = operand-length 1 (now (s .args .command)) (day-type-there _ (s .pre .0) code) in
     let put = c .before .before .append2 .ensures in (
       record {
@@ -85,7 +96,7 @@ returns-2 c =
         categories = held .categories;
         dayTypes = omega (arith, s .pre .1 .1 .dayType code, more, put .end);
       },
-      ((refl, refl), (collects-day-type (limits s) (begun s) (now (s .args .command)) _ code (put .held), day-type-printed (limits s) (begun s) (now (s .args .command)) _ code)),
+      ((refl, refl), (collects-day-type (s .args .capacity) (begun s) (now (s .args .command)) _ code (put .held), day-type-printed (s .args .capacity) (begun s) (now (s .args .command)) _ code)),
     )
 
 with-room-requires : tie.Need-with-room-requires
@@ -95,16 +106,18 @@ slice-reshare-prefix-open : tie.Need-slice-reshare-prefix-open
 slice-reshare-prefix-open c = search needs
 
 slice-aggregate-open : tie.Need-slice-aggregate-open
-slice-aggregate-open c = sym (length-take-le _ _ (c .before .before .before .before .before .before .before .before .before .before .before .before .before .before .before .pre .1 .0 .categories))
+slice-aggregate-open c = sym (length-take-le _ _ (start (c .before .before) .pre .1 .0 .categories))
 
 slice-reshare-prefix-open-2 : tie.Need-slice-reshare-prefix-open-2
 slice-reshare-prefix-open-2 c = search needs
 
 slice-aggregate-open-2 : tie.Need-slice-aggregate-open-2
-slice-aggregate-open-2 c = sym (length-take-le _ _ (c .before .before .before .before .before .before .before .before .before .before .before .before .before .before .before .before .pre .1 .0 .dayTypes))
+slice-aggregate-open-2 c = sym (length-take-le _ _ (start (c .before .before .before) .pre .1 .0 .dayTypes))
 
 open-requires : tie.Need-open-requires
-open-requires c κs = (opening-there _ (c .before .before .before .before .before .before .before .before .before .before .before .before .before .before .before .before .before .before .before .before .before .pre .0) (c .before .before .before .before .before .before .before .if3 .taken), c .before .before .before .before .before .before .before .before .with-room .ensures .line)
+open-requires c κs =
+    let t = c .before .before .before .before .before .before .before in
+    (opening-there _ (start (t .before) .pre .0) (t .if3 .taken), t .before .with-room .ensures .line)
 
 same-length-3 : tie.Need-same-length-3
 same-length-3 c = search needs
@@ -129,11 +142,12 @@ same-length-9 c = search needs
 
 returns-3 : tie.Need-returns-3
 returns-3 c =
-    let s = c .before .before .before .before .before .before .before .before .before .before .before .before .before .before .before .before .before .before .before .before .before .before .before .before .before .before .before .before .before .before .before .before in
+    let t = c .before .before .before .before .before .before .before .before .before .before .before .before .before .before .before .before .before .before in
+    let s = start (t .before) in
     let b = now (s .args .command) in
     let held = s .pre .1 .0 in
-    let code = c .before .before .before .before .before .before .before .before .before .before .before .before .before .before .before .before .before .before .if3 .taken in
-    let room = c .before .before .before .before .before .before .before .before .before .before .before .before .before .before .before .before .before .before .before .with-room .ensures in
+    let code = t .if3 .taken in
+    let room = t .before .with-room .ensures in
     let put = c .before .before .before .before .before .before .before .before .before .before .«open» .ensures in (
       record {
         line = held .line;
@@ -141,12 +155,14 @@ returns-3 c =
         categories = omega arith;
         dayTypes = omega arith;
       },
-      ((refl, refl), (uses-up (limits s) (begun s) b _ code (put .1 .0), printed (limits s) (begun s) b _ _ _ _ _ _ _ (opening-line (limits s) (begun s) b code) room (put .0))),
+      ((refl, refl), (uses-up (s .args .capacity) (begun s) b _ code (put .1 .0), line-printed room (opening-appended (s .args .capacity) (begun s) b code (put .0)))),
     )
 
 ask-requires : tie.Need-ask-requires
 ask-requires c κs =
-    ((c .before .before .before .before .before .before .before .before .before .before .before .before .before .before .before .before .before .before .before .pre .0, c .before .before .before .before .before .before .with-room .ensures .line), (c .before .before .before .before .before .if3 .left, c .before .before .before .before .before .before .before .before .before .if1 .left, c .before .before .before .before .before .before .before .before .if2 .left))
+    let e = c .before .before .before .before .before in
+    let w = e .before in
+    ((start w .pre .0, w .with-room .ensures .line), (e .if3 .left, w .before .before .before .if1 .left, w .before .before .if2 .left))
 
 same-length-10 : tie.Need-same-length-10
 same-length-10 c = search needs
@@ -165,13 +181,15 @@ same-length-14 c = search needs
 
 returns-4 : tie.Need-returns-4
 returns-4 c =
-    let s = c .before .before .before .before .before .before .before .before .before .before .before .before .before .before .before .before .before .before .before .before .before .before .before .before .before .before .before .before in
+    let e = c .before .before .before .before .before .before .before .before .before .before .before .before .before .before in
+    let w = e .before in
+    let s = start w in
     let b = now (s .args .command) in
     let held = s .pre .1 .0 in
-    let no-opening = c .before .before .before .before .before .before .before .before .before .before .before .before .before .before .if3 .left in
-    let no-category = c .before .before .before .before .before .before .before .before .before .before .before .before .before .before .before .before .before .before .if1 .left in
-    let no-day-type = c .before .before .before .before .before .before .before .before .before .before .before .before .before .before .before .before .before .if2 .left in
-    let room = c .before .before .before .before .before .before .before .before .before .before .before .before .before .before .before .with-room .ensures in
+    let no-opening = e .if3 .left in
+    let no-category = w .before .before .before .if1 .left in
+    let no-day-type = w .before .before .if2 .left in
+    let room = w .with-room .ensures in
     let put = c .before .before .before .before .before .before .before .before .ask .ensures in (
       record {
         line = held .line;
@@ -179,7 +197,7 @@ returns-4 c =
         categories = held .categories;
         dayTypes = held .dayTypes;
       },
-      ((refl, refl), (asks (limits s) (begun s) b _ no-opening no-category no-day-type (put .1 .0), printed (limits s) (begun s) b _ _ _ _ _ _ _ (asked-line (limits s) (begun s) b no-opening no-category no-day-type) room (put .0))),
+      ((refl, refl), (asks (s .args .capacity) (begun s) b _ no-opening no-category no-day-type (put .1 .0), line-printed room (asked-appended (s .args .capacity) (begun s) b no-opening no-category no-day-type (put .0)))),
     )
 
 pub obey-spec : {M : Type 1} → statement M

@@ -1,3 +1,4 @@
+-- `session::refill` meets its contract: what is left of the block goes to its front, and what is read behind it.
 use native.Mathlib.Omega.{arith}
 use mathlib.Core.Path.{sym}
 use lib.Seq.{length-take-le}

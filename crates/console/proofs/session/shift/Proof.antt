@@ -1,3 +1,4 @@
+-- `session::shift` meets its contract: one byte a turn.
 use denote.Ref.{now}
 use borrow.Author.Needs.{needs}
 use Prim.Native.Nat.{_+_, _-_, _≤_, _<_}

@@ -1,3 +1,4 @@
+-- `session::take_turns` meets its contract: between turns the session lies within its blocks, and no turn changes a length.
 use borrow.Author.Needs.{needs}
 use mathlib.Core.Path.{_≡_, refl, sym}
 use lib.ListN.{length}
@@ -8,7 +9,7 @@ use Rattle.console.proofs.session.take_turns.Statement.{statement}
 use Rattle.console.proofs.session.take_turns.Tie as tie
 
 abbrev Inv-loop : tie.InvT-loop
-Inv-loop input₀ output₀ category-records₀ day-types₀ settings₀ meters₀ readings₀ cells₀ most-meters most-date-periods session₀ turns₀ input output category-records day-types settings meters readings cells session turns =
+Inv-loop input₀ output₀ category-records₀ day-types₀ settings₀ meters₀ readings₀ cells₀ capacity session₀ turns₀ input output category-records day-types settings meters readings cells session turns =
     BlockBounds session (length input₀) ×
     Held session (length output₀) (length category-records₀) (length day-types₀) ×
     (length input ≡ length input₀) ×
@@ -21,8 +22,12 @@ Inv-loop input₀ output₀ category-records₀ day-types₀ settings₀ meters�
     (length cells ≡ length cells₀)
 
 abbrev μ-loop : tie.MeasureT-loop
-μ-loop input₀ output₀ category-records₀ day-types₀ settings₀ meters₀ readings₀ cells₀ most-meters most-date-periods session₀ turns₀ input output category-records day-types settings meters readings cells session turns =
+μ-loop input₀ output₀ category-records₀ day-types₀ settings₀ meters₀ readings₀ cells₀ capacity session₀ turns₀ input output category-records day-types settings meters readings cells session turns =
     turns
+
+-- the loop's head, from where a turn is done
+abbrev head : tie.After-turn Inv-loop μ-loop → tie.In-loop Inv-loop μ-loop
+head c = c .before .before .before .before .before .before .before .before .before .before .before
 
 loop-holds : tie.Need-loop-holds Inv-loop μ-loop
 loop-holds c = (
@@ -44,15 +49,16 @@ turn-requires c κs =
     (rw (inv .2) (inv .0), rw (inv .3, inv .4, inv .5) (inv .1))
 
 sub-turns : tie.Need-sub-turns Inv-loop μ-loop
-sub-turns c = omega (arith, c .before .before .before .before .before .before .before .before .before .before .before .before .before .before .before .before .before .before .before .before .before .before .before .before .before .before .before .loop-test)
+sub-turns c = omega (arith, head (c .before .before .before .before .before .before .before .before .before .before .before .before .before .before .before .before) .loop-test)
 
 loop-less : tie.Need-loop-less Inv-loop μ-loop
-loop-less c = omega (arith, c .before .before .before .before .before .before .before .before .before .before .before .before .before .before .before .before .before .before .before .before .before .before .before .before .before .before .before .loop-test)
+loop-less c = omega (arith, head (c .before .before .before .before .before .before .before .before .before .before .before .before .before .before .before .before) .loop-test)
 
 loop-again : tie.Need-loop-again Inv-loop μ-loop
 loop-again c =
-    let inv = c .before .before .before .before .before .before .before .before .before .before .before .before .before .before .before .before .before .before .before .before .before .before .before .before .before .before .before .before .loop .inv in
-    let done = c .before .before .before .before .before .before .before .before .before .before .before .before .before .before .before .before .turn in (
+    let t = c .before .before .before .before .before .before .before .before .before .before .before .before .before .before .before .before in
+    let inv = head t .before .loop .inv in
+    let done = t .turn in (
       rw (inv .2) at (done .ensures .0),
       rw (inv .3, inv .4, inv .5) at (done .ensures .1 .0),
       omega (arith, done .kept),

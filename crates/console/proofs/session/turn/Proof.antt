@@ -1,3 +1,4 @@
+-- `session::turn` meets its contract: the bytes start with a whole command, which is obeyed, with a cut one, or with none.
 use Prim.Native.Nat.{ℕ, _-_, _≤_}
 use mathlib.Core.Path.{_≡_, refl, sym, _∙_}
 use mathlib.Core.Bool.{false}
@@ -8,29 +9,39 @@ use lib.Dec.{leb, ltb}
 use borrow.Author.Tests.{leb-true, ltb-true}
 use denote.Ref.{now}
 use Rattle.input.specs.Form.{commandLength, isOverfull, Command}
+use Rattle.commands.specs.Commands.{State}
+use Rattle.console.specs.Session.{stateOf}
 use Rattle.console.proofs.Laws.{window-length, category-room, day-type-room}
 use borrow.Author.Needs.{needs}
 use Rattle.console.proofs.session.turn.Statement.{statement}
 use Rattle.console.proofs.session.turn.Tie as tie
 
-abbrev start : tie.After-found → tie.Start
-start c = c .before .before .before .before .before .before .before .before .before .before .before .before .before .before .before
+abbrev start : tie.After-command-extent → tie.Start
+start c = c .before .before .before .before .before .before .before .before .before .before .before .before .before
+
+abbrev begun : tie.After-found → tie.Start
+begun c = start (c .before .before)
+
+abbrev state : tie.Start → State
+state s =
+    let a = s .args in
+    stateOf (a .session) (now (a .category-records)) (now (a .day-types)) (now (a .settings)) (now (a .meters)) (now (a .readings)) (now (a .cells))
 
 abbrev window : tie.After-found → List ℕ
 window c =
-    let a = start c .args in
+    let a = begun c .args in
     take (a .session .end - a .session .at) (drop (a .session .at) (now (a .input)))
 
 -- the whole command that was found, and that there is room for what it brings
-whole : (c : tie.After-found) → let a = start c .args in
+whole : (c : tie.After-found) → let a = begun c .args in
     (c .found .given .0 .0 ≡ commandLength (window c)) × Command (window c) ×
     (isOverfull (getD (window c) 0 0) (leb 8 (length (now (a .category-records)) - a .session .«category_bytes»)) (ltb (a .session .«day_types») (length (now (a .day-types)))) ≡ false)
 whole c = rw (c .found .given .1) at (c .before .before .command-extent .ensures .1)
 
-within : (c : tie.After-found) → c .found .given .0 .0 ≤ start c .args .session .end - start c .args .session .at
+within : (c : tie.After-found) → c .found .given .0 .0 ≤ begun c .args .session .end - begun c .args .session .at
 within c =
-    let a = start c .args in
-    let w = start c .pre .0 in
+    let a = begun c .args in
+    let w = begun c .pre .0 in
     omega (arith, whole c .0, whole c .1 .whole, window-length (now (a .input)) (a .session .at) (a .session .end) (w .begun) (w .block))
 
 sub-category-room : tie.Need-sub-category-room
@@ -52,7 +63,7 @@ enum-known-found : tie.Need-enum-known-found
 enum-known-found c = search needs
 
 add-next : tie.Need-add-next
-add-next c = omega (arith, within (c .before), start (c .before) .pre .0)
+add-next c = omega (arith, within (c .before), begun (c .before) .pre .0)
 
 sub-obey : tie.Need-sub-obey
 sub-obey c = search needs
@@ -66,9 +77,9 @@ part-obey-end c = search needs
 obey-requires : tie.Need-obey-requires
 obey-requires c κs =
     let f = c .before .before .before .before .before .before .before .before .before .before in
-    let held = start f .pre .1 in
+    let held = begun f .pre .1 in
     let found = whole f in
-    let a = start f .args in
+    let a = begun f .args in
     let left = length (now (a .category-records)) - a .session .«category_bytes» in (
       found .1,
       (
@@ -122,8 +133,8 @@ returns c =
     let obeyed = c .before .before .before .before .before .before .before .before .before .before .before .before .before .before .obey .ensures in
     let extent = sym (f .before .before .command-extent .ensures .0) ∙ f .found .given .1 in (
       record {
-        begun = omega (arith, obeyed .1 .0, within f, start f .pre .0 .begun);
-        block = omega (arith, obeyed .1 .0, start f .pre .0 .block);
+        begun = omega (arith, obeyed .1 .0, within f, begun f .pre .0 .begun);
+        block = omega (arith, obeyed .1 .0, begun f .pre .0 .block);
       },
       (obeyed .0, rw extent (obeyed .1 .0 .0, obeyed .1 .1 .0, obeyed .1 .1 .1)),
     )
@@ -136,9 +147,10 @@ same-length-10 c = search needs
 
 returns-2 : tie.Need-returns-2
 returns-2 c =
-    let held = c .before .before .before .before .before .before .before .before .before .before .before .before .before .before .before .before .before .before .before .before .before .before .pre .1 in
+    let e = c .before .before .before .before .before .before .before .before .before in
+    let held = start e .pre .1 in
     let filled = c .before .before .before .before .refill .ensures in
-    let extent = sym (c .before .before .before .before .before .before .before .before .before .command-extent .ensures .0) ∙ c .before .before .before .before .before .before .before .enum-told .given .1 in (
+    let extent = sym (e .command-extent .ensures .0) ∙ c .before .before .before .before .before .before .before .enum-told .given .1 in (
       filled .0 .0,
       (
         record {
@@ -159,14 +171,15 @@ same-length-12 c = search needs
 
 returns-3 : tie.Need-returns-3
 returns-3 c =
-    let s = c .before .before .before .before .before .before .before .before .before .before .before .before .before .before .before .before .before .before .before in
+    let e = c .before .before .before .before .before .before in
+    let s = start e in
     let held = s .pre .1 in
     let put = c .before .before .append-bad .ensures in
-    let extent = sym (c .before .before .before .before .before .before .command-extent .ensures .0) ∙ c .before .before .before .before .enum-told2 .given .1 in (
+    let extent = sym (e .command-extent .ensures .0) ∙ c .before .before .before .before .enum-told2 .given .1 in (
       record { begun = s .pre .0 .begun; block = s .pre .0 .block },
       (
         record { line = held .line; waiting = put .0; categories = held .categories; dayTypes = held .dayTypes },
-        rw extent (refl, refl, put .1),
+        rw extent (refl {a = state s}, refl, put .1),
       ),
     )
 

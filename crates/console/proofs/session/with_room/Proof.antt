@@ -1,3 +1,4 @@
+-- `session::with_room` meets its contract: what waits is written out where a line has no room behind it.
 use mathlib.Core.Path.{refl, sym}
 use mathlib.Core.Bool.{true, false}
 use native.Mathlib.Omega.{arith}

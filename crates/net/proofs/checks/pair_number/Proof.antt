@@ -1,6 +1,9 @@
--- `net::checks::pair_number` meets its contract. Assumes nothing.
+-- `pair_number` meets its contract: 26 comes before 14.
+use mathlib.Core.Bool.{not}
 use borrow.Author.Needs.{needs}
-use Rattle.net.proofs.CheckLaws.{partner-first}
+use denote.Ref.{now}
+use Rattle.reads.proofs.CheckLaws.{first-number}
+use Rattle.net.specs.Sides.{pairedWith}
 use Rattle.net.proofs.checks.pair_number.Statement.{statement}
 use Rattle.net.proofs.checks.pair_number.Tie as tie
 
@@ -14,7 +17,9 @@ first-failed-requires : tie.Need-first-failed-requires
 first-failed-requires c κs = search needs
 
 returns : tie.Need-returns
-returns c = partner-first _ _ _ _ _ _ _ _ (c .before .before .partner-number .ensures) (c .before .run-number .ensures) (c .first-failed .ensures)
+returns c =
+    let a = c .before .before .before .before .before .args in
+    first-number (not (pairedWith (now (a .settings)) (a .category) (a .exports))) 25 (c .before .before .partner-number .ensures) (c .before .run-number .ensures) (c .first-failed .ensures)
 
 pub pair-number-spec : {M : Type 1} → statement M
 pair-number-spec = tie.close (tie.spec partner-number-requires run-number-requires first-failed-requires returns)

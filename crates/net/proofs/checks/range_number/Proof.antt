@@ -1,67 +1,51 @@
--- `net::checks::range_number` meets its contract. Assumes nothing.
-use native.Mathlib.Omega.{arith}
+-- `range_number` meets its contract: 1, then 9, then 15.
+use mathlib.Core.Path.{_≡_, sym, _∙_}
+use mathlib.Core.Bool.{true}
 use borrow.Author.Needs.{needs}
-use borrow.Author.Tests.{le-leb, lt-leb, le-ltb, lt-ltb}
-use Rattle.ledger.specs.Checks.{totalsInRange}
-use Rattle.ledger.specs.Ready.{ready}
-use Rattle.net.proofs.CheckLaws.{long, not-short, some-short}
+use denote.Ref.{now}
+use lib.Dec.{leb}
+use Rattle.ledger.specs.Store.{settingsReady, datesOf}
+use Rattle.reads.proofs.CheckLaws.{first-number}
+use Rattle.net.proofs.CheckLaws.{long}
 use Rattle.net.proofs.checks.range_number.Statement.{statement}
 use Rattle.net.proofs.checks.range_number.Tie as tie
 
-short-number-requires : tie.Need-short-number-requires
-short-number-requires c κs = search needs
+abbrev start : tie.Else1 → tie.Start
+start c = c .before .before .before .before
+
+opened : (c : tie.Else1) → settingsReady (now (start c .args .settings)) ≡ true
+opened c = long _ _ _ _ (sym (c .before .too-short .ensures) ∙ c .if1 .left) .opened
+
+too-short-requires : tie.Need-too-short-requires
+too-short-requires c κs = search needs
 
 returns : tie.Need-returns
-returns c = some-short _ _ _ _ _ _ (c .before .short-number .ensures) (c .if1 .taken)
+returns c = rw (← c .before .too-short .ensures, c .if1 .taken)
 
-date-count-requires : tie.Need-date-count-requires
-date-count-requires c κs =
-    let k = ready _ (long _ _ _ _ (not-short _ _ _ _ _ (c .before .short-number .ensures) (c .if1 .left)) .opened) in omega arith
+date-number-requires : tie.Need-date-number-requires
+date-number-requires c κs = opened c
+
+category-number-requires : tie.Need-category-number-requires
+category-number-requires c κs = opened (c .before)
+
+first-failed-requires : tie.Need-first-failed-requires
+first-failed-requires c κs = search needs
 
 returns-2 : tie.Need-returns-2
 returns-2 c =
-    let b = c .before .before in
-    rw (not-short _ _ _ _ _ (b .before .short-number .ensures) (b .if1 .left), ← c .before .date-count .ensures, le-leb _ _ (c .if2 .taken))
-
-category-count-requires : tie.Need-category-count-requires
-category-count-requires c κs =
-    let b = c .before .before in
-    let k = ready _ (long _ _ _ _ (not-short _ _ _ _ _ (b .before .short-number .ensures) (b .if1 .left)) .opened) in omega arith
-
-returns-3 : tie.Need-returns-3
-unfolding totalsInRange
-returns-3 c =
-    let b2 = c .before .before in
-    let b = b2 .before .before in
-    rw (
-      not-short _ _ _ _ _ (b .before .short-number .ensures) (b .if1 .left),
-      ← b2 .before .date-count .ensures,
-      lt-leb _ _ (b2 .if2 .left),
-      ← c .before .category-count .ensures,
-      le-ltb _ _ (c .if3 .taken),
-    )
-
-returns-4 : tie.Need-returns-4
-unfolding totalsInRange
-returns-4 c =
-    let b2 = c .before .before in
-    let b = b2 .before .before in
-    rw (
-      not-short _ _ _ _ _ (b .before .short-number .ensures) (b .if1 .left),
-      ← b2 .before .date-count .ensures,
-      lt-leb _ _ (b2 .if2 .left),
-      ← c .before .category-count .ensures,
-      lt-ltb _ _ (c .if3 .left),
-    )
+    let date = c .before .before in
+    let els = date .before in
+    let a = start els .args in
+    rw (← els .before .too-short .ensures, els .if1 .left)
+    (first-number (leb (datesOf (now (a .settings))) (a .date)) 8 (date .date-number .ensures) (c .before .category-number .ensures) (c .first-failed .ensures))
 
 pub range-number-spec : {M : Type 1} → statement M
 range-number-spec =
     tie.close
     (tie.spec
-    short-number-requires
+    too-short-requires
     returns
-    date-count-requires
-    returns-2
-    category-count-requires
-    returns-3
-    returns-4)
+    date-number-requires
+    category-number-requires
+    first-failed-requires
+    returns-2)

@@ -1,80 +1,96 @@
--- `net::periods::side_sum` meets its contract. The invariant: both sums are over the members passed. Assumes nothing.
-use Prim.Native.Nat.{_≤_, _-_}
-use mathlib.Core.Path.{_∙_, ap}
+-- `side_sum` meets its contract. The invariant: both sums are over the members passed.
+use Prim.Native.Nat.{suc, _-_, _≤_}
+use mathlib.Core.Path.{_≡_, ap, _∙_}
 use native.Mathlib.Omega.{arith}
 use borrow.Author.Needs.{needs}
+use denote.Ref.{now}
+use lib.ListN.{getD}
 use Rattle.ledger.specs.Method.{isBlank}
-use Rattle.ledger.specs.Store.{cellOfEntry}
-use Rattle.net.specs.Walk.{SummedFirst, valueBeyond, blankBeyond}
+use Rattle.store.specs.Cell.{cellMeant}
+use Rattle.store.specs.Column.{beside, cellIn}
+use Rattle.store.proofs.ColumnLaws.{beside-reaches}
+use Rattle.reads.specs.Figures.{valueAfter, blankAfter}
+use Rattle.net.specs.Walk.{SummedFirst}
 use Rattle.net.proofs.SideLaws.{none-first, one-further, all-first}
 use Rattle.net.proofs.periods.side_sum.Statement.{statement}
 use Rattle.net.proofs.periods.side_sum.Tie as tie
 
 abbrev Inv-loop : tie.InvT-loop
-Inv-loop cells at periods members count value₀ blanks₀ i₀ value blanks i =
-    (i ≤ count) × SummedFirst members i 4294967295 (valueBeyond cells at periods) value × SummedFirst members i 1 (blankBeyond cells at periods) blanks
+Inv-loop cells column date k members count value₀ blanks₀ i₀ value blanks i =
+    (i ≤ count)
+    × SummedFirst members i 4294967295 (λ c. valueAfter (beside column c) cells date k) value
+    × SummedFirst members i 1 (λ c. blankAfter (beside column c) cells date k) blanks
 
 abbrev μ-loop : tie.MeasureT-loop
-μ-loop cells at periods members count value₀ blanks₀ i₀ value blanks i = count - i
+μ-loop cells column date k members count value₀ blanks₀ i₀ value blanks i = count - i
+
+abbrev start : tie.At-loop Inv-loop μ-loop → tie.Start Inv-loop μ-loop
+start c = c .before .before
+
+abbrev turn : tie.After-beside Inv-loop μ-loop → tie.In-loop Inv-loop μ-loop
+turn c = c .before .before
+
+abbrev cell : tie.After-blank-number Inv-loop μ-loop → tie.After-cell-at Inv-loop μ-loop
+cell c = c .before .before
+
+-- the cell that is read is the member's
+cell-is : (c : tie.After-cell-at Inv-loop μ-loop) → let a = start (turn (c .before) .before) .args in
+    cellMeant (c .cell-at .result) ≡ cellIn (beside (a .column) (getD (now (a .members)) (turn (c .before) .before .loop .i) 0)) (now (a .cells)) (a .date) (suc (a .k))
+cell-is c =
+    let a = start (turn (c .before) .before) .args in
+    c .cell-at .ensures .is ∙ ap (λ m. cellIn m (now (a .cells)) (a .date) (suc (a .k))) (c .before .beside .ensures)
+
+few : (c : tie.In-loop Inv-loop μ-loop) → c .before .loop .i ≤ 64
+few c = omega (arith, c .before .loop .inv .0, start (c .before) .pre .2 .few)
 
 loop-holds : tie.Need-loop-holds Inv-loop μ-loop
 loop-holds c = (omega arith, none-first _ _ _, none-first _ _ _)
 
-mul-entry-at : tie.Need-mul-entry-at Inv-loop μ-loop
-mul-entry-at c = omega arith
+mul-category : tie.Need-mul-category Inv-loop μ-loop
+mul-category c = omega (arith, few c)
 
-element-copy-out-entry-at : tie.Need-element-copy-out-entry-at Inv-loop μ-loop
-element-copy-out-entry-at c = omega arith
+element-copy-out-category : tie.Need-element-copy-out-category Inv-loop μ-loop
+element-copy-out-category c = omega (arith, start (c .before) .pre .2 .within, c .loop-test .taken)
 
-mul-entry-at-2 : tie.Need-mul-entry-at-2 Inv-loop μ-loop
-mul-entry-at-2 c = omega (arith, c .before .before .before .before .pre .cell (c .before .before .loop .i) (c .before .loop-test .taken))
+beside-requires : tie.Need-beside-requires Inv-loop μ-loop
+beside-requires c κs = search needs
 
-add-entry-at : tie.Need-add-entry-at Inv-loop μ-loop
-add-entry-at c = omega (arith, c .before .before .before .before .pre .cell (c .before .before .loop .i) (c .before .loop-test .taken))
-
-entry-at-requires : tie.Need-entry-at-requires Inv-loop μ-loop
-entry-at-requires c κs = c .before .before .before .before .pre .cell (c .before .before .loop .i) (c .before .loop-test .taken)
-
-entry-value-requires : tie.Need-entry-value-requires Inv-loop μ-loop
-entry-value-requires c κs = search needs
+cell-at-requires : tie.Need-cell-at-requires Inv-loop μ-loop
+cell-at-requires c κs =
+    let t = turn c in
+    let pre = start (t .before) .pre in
+    (beside-reaches (pre .0) _ (c .beside .ensures) (pre .2 .each (t .before .loop .i) (t .loop-test .taken)), omega (arith, pre .1, ap (λ m. m .periods) (c .beside .ensures)))
 
 add-value : tie.Need-add-value Inv-loop μ-loop
-add-value c = omega (arith, c .before .before .before .before .loop .inv .1 .small, c .entry-value .ensures .1)
-
-entry-flag-requires : tie.Need-entry-flag-requires Inv-loop μ-loop
-entry-flag-requires c κs = search needs
+add-value c = let t = turn (c .before .before) in omega (arith, few t, t .before .loop .inv .1 .small, c .before .cell-at .ensures .small)
 
 blank-number-requires : tie.Need-blank-number-requires Inv-loop μ-loop
 blank-number-requires c κs = search needs
 
 add-blanks : tie.Need-add-blanks Inv-loop μ-loop
-add-blanks c = omega (arith, c .before .before .before .before .before .before .loop .inv .2 .small, c .blank-number .ensures .small)
+add-blanks c = let t = turn (cell c .before) in omega (arith, few t, t .before .loop .inv .2 .small, c .blank-number .ensures .small)
 
 add-i : tie.Need-add-i Inv-loop μ-loop
-add-i c = omega arith
+add-i c = omega (arith, few (turn (cell c .before)))
 
 loop-less : tie.Need-loop-less Inv-loop μ-loop
-loop-less c = omega arith
+loop-less c = omega (arith, turn (cell c .before) .loop-test .taken)
 
 loop-again : tie.Need-loop-again Inv-loop μ-loop
 loop-again c =
-    let entry = c .before .before .before in
-    let loop = entry .before .before .before in
-    let low = c .before .before .before .before .before .before .before .before .pre .within in
-    let cell = entry .entry-at .ensures in (
-      omega arith,
-      one-further (loop .loop .inv .1) (omega arith) (record { is = c .before .before .entry-value .ensures .0 ∙ ap (λ e. cellOfEntry e .value) cell; small = omega (arith, c .before .before .entry-value .ensures .1) }),
-      one-further (loop .loop .inv .2) (omega arith)
-          (record {
-            is = c .blank-number .ensures .is ∙ ap isBlank (c .before .entry-flag .ensures ∙ ap (λ e. cellOfEntry e .flag) cell);
-            small = c .blank-number .ensures .small;
-          }),
+    let t = turn (cell c .before) in
+    let inv = t .before .loop .inv in
+    let low = start (t .before) .pre .2 .within in (
+      omega (arith, t .loop-test .taken),
+      one-further (inv .1) (omega (arith, low, t .loop-test .taken))
+          (record { is = ap (λ a. a .value) (cell-is (cell c)); small = cell c .cell-at .ensures .small }),
+      one-further (inv .2) (omega (arith, low, t .loop-test .taken))
+          (record { is = c .blank-number .ensures .is ∙ ap (λ a. isBlank (a .flag)) (cell-is (cell c)); small = c .blank-number .ensures .small }),
     )
 
 returns : tie.Need-returns Inv-loop μ-loop
 returns c =
-    let loop = c .before .loop in
-    record { values = all-first (omega arith) (loop .inv .1); blank = all-first (omega arith) (loop .inv .2) }
+    let inv = c .before .loop .inv in record { values = all-first (omega arith) (inv .1); blank = all-first (omega arith) (inv .2) }
 
 pub side-sum-spec : {M : Type 1} → statement M
 side-sum-spec =
@@ -83,14 +99,11 @@ side-sum-spec =
     Inv-loop
     μ-loop
     loop-holds
-    mul-entry-at
-    element-copy-out-entry-at
-    mul-entry-at-2
-    add-entry-at
-    entry-at-requires
-    entry-value-requires
+    mul-category
+    element-copy-out-category
+    beside-requires
+    cell-at-requires
     add-value
-    entry-flag-requires
     blank-number-requires
     add-blanks
     add-i

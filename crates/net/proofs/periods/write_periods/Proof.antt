@@ -1,11 +1,11 @@
--- `net::periods::write_periods` meets its contract. The invariant: both lists are filled, and both sides summed, up to the period reached. Assumes nothing.
-use Prim.Native.Nat.{_≤_, _-_, _+_}
+-- `write_periods` meets its contract. The invariant: both lists are filled, and both sides summed, up to the period reached.
+use Prim.Native.Nat.{_-_, _+_, _≤_}
 use mathlib.Core.Path.{_≡_, sym, ap₂, _∙_}
 use mathlib.Core.Bool.{cond}
 use native.Mathlib.Omega.{arith}
 use lib.Dec.{eqb}
 use lib.IntN.{pos, _-ℤ_}
-use lib.ListN.{length, take}
+use lib.ListN.{take}
 use Rattle.ledger.specs.Table.{filling}
 use Rattle.ledger.proofs.Lists.{filling-zero, fill, filled, filled-long}
 use Rattle.reads.specs.Sums.{Summed}
@@ -16,94 +16,101 @@ use Rattle.net.proofs.periods.write_periods.Statement.{statement}
 use Rattle.net.proofs.periods.write_periods.Tie as tie
 
 abbrev Inv-loop : tie.InvT-loop
-Inv-loop cells first periods imports import-count exports export-count numbers₀ marks₀ import₀ export₀ k₀ numbers marks import export k =
+Inv-loop cells column date imports import-count exports export-count numbers₀ marks₀ periods import₀ export₀ k₀ numbers marks import export k =
     (k ≤ periods)
-    × (numbers ≡ filling k (periodNet cells first periods (take import-count imports) (take export-count exports)) numbers₀)
-    × (marks ≡ filling k (periodMark cells first periods (take import-count imports) (take export-count exports)) marks₀)
-    × Summed k 274877906880 (sideValue cells first periods (take import-count imports)) import
-    × Summed k 274877906880 (sideValue cells first periods (take export-count exports)) export
+    × (numbers ≡ filling k (periodNet cells column date (take import-count imports) (take export-count exports)) numbers₀)
+    × (marks ≡ filling k (periodMark cells column date (take import-count imports) (take export-count exports)) marks₀)
+    × Summed k 274877906880 (sideValue cells column date (take import-count imports)) import
+    × Summed k 274877906880 (sideValue cells column date (take export-count exports)) export
 
 abbrev μ-loop : tie.MeasureT-loop
-μ-loop cells first periods imports import-count exports export-count numbers₀ marks₀ import₀ export₀ k₀ numbers marks import export k = periods - k
+μ-loop cells column date imports import-count exports export-count numbers₀ marks₀ periods import₀ export₀ k₀ numbers marks import export k = periods - k
+
+abbrev start : tie.At-loop Inv-loop μ-loop → tie.Start Inv-loop μ-loop
+start c = c .before .before .before
+
+abbrev turn : tie.After-side-sum2 Inv-loop μ-loop → tie.In-loop Inv-loop μ-loop
+turn c = c .before .before
+
+abbrev sums : tie.After-struct-known2 Inv-loop μ-loop → tie.After-side-sum2 Inv-loop μ-loop
+sums c = c .before .before .before .before .before .before .before .before .before
 
 loop-holds : tie.Need-loop-holds Inv-loop μ-loop
 loop-holds c = (omega arith, sym (filling-zero _ _), sym (filling-zero _ _), none-yet _ _, none-yet _ _)
 
-add-side-sum : tie.Need-add-side-sum Inv-loop μ-loop
-add-side-sum c = omega arith
-
 side-sum-requires : tie.Need-side-sum-requires Inv-loop μ-loop
-side-sum-requires c κs =
-    let pre = c .before .before .before .before .pre .0 in
-    record { few = pre .few; within = pre .within; cell = λ i h. pre .cell (c .before .loop .k) i (c .loop-test .taken) h }
-
-add-side-sum-2 : tie.Need-add-side-sum-2 Inv-loop μ-loop
-add-side-sum-2 c = omega arith
+side-sum-requires c κs = let pre = start (c .before) .pre in (pre .0, c .loop-test .taken, pre .1)
 
 side-sum-requires-2 : tie.Need-side-sum-requires-2 Inv-loop μ-loop
-side-sum-requires-2 c κs =
-    let pre = c .before .before .before .before .before .pre .1 in
-    record { few = pre .few; within = pre .within; cell = λ i h. pre .cell (c .before .before .loop .k) i (c .before .loop-test .taken) h }
+side-sum-requires-2 c κs = let t = c .before in let pre = start (t .before) .pre in (pre .0, t .loop-test .taken, pre .2)
 
 put-net-requires : tie.Need-put-net-requires Inv-loop μ-loop
 put-net-requires c κs =
-    let loop = c .before .before .before .before .loop in
-    let pre = c .before .before .before .before .before .before .before .pre in
-    let taken = c .before .before .before .loop-test .taken in (
-      omega (arith, filled-long _ _ (loop .numbers) (loop .k) (loop .inv .1) (omega (arith, taken, pre .4)), taken, pre .4),
-      omega (arith, c .before .before .side-sum .ensures .values .small, pre .0 .few),
-      omega (arith, c .before .side-sum2 .ensures .values .small, pre .1 .few),
+    let s = c .before in
+    let t = turn s in
+    let loop = t .before .loop in
+    let pre = start (t .before) .pre in (
+      omega (arith, filled-long _ _ (loop .numbers) (loop .k) (loop .inv .1) (omega (arith, t .loop-test .taken, pre .3)), t .loop-test .taken, pre .3),
+      omega (arith, s .before .side-sum .ensures .values .small, pre .1 .few),
+      omega (arith, s .side-sum2 .ensures .values .small, pre .2 .few),
     )
 
 put-mark-requires : tie.Need-put-mark-requires Inv-loop μ-loop
 put-mark-requires c κs =
-    let loop = c .before .before .before .before .before .before .before .loop in
-    let pre = c .before .before .before .before .before .before .before .before .before .before .pre in
-    let taken = c .before .before .before .before .before .before .loop-test .taken in (
-      omega (arith, filled-long _ _ (loop .marks) (loop .k) (loop .inv .2) (omega (arith, taken, pre .5)), taken, pre .5),
-      omega (arith, c .before .before .before .before .before .side-sum .ensures .blank .small, pre .0 .few),
-      omega (arith, c .before .before .before .before .side-sum2 .ensures .blank .small, pre .1 .few),
+    let s = c .before .before .before .before in
+    let t = turn s in
+    let loop = t .before .loop in
+    let pre = start (t .before) .pre in (
+      omega (arith, filled-long _ _ (loop .marks) (loop .k) (loop .inv .2) (omega (arith, t .loop-test .taken, pre .4)), t .loop-test .taken, pre .4),
+      omega (arith, s .before .side-sum .ensures .blank .small, pre .1 .few),
+      omega (arith, s .side-sum2 .ensures .blank .small, pre .2 .few),
     )
 
 add-import : tie.Need-add-import Inv-loop μ-loop
 add-import c =
-    let loop = c .before .before .before .before .before .before .before .before .before .before .before .loop in
-    let pre = c .before .before .before .before .before .before .before .before .before .before .before .before .before .before .pre in
-    omega (arith, loop .inv .3 .small, loop .inv .0, pre .2, as-figure (c .before .before .before .before .before .before .before .before .before .side-sum .ensures .values) (pre .0 .few) .small)
+    let s = c .before .before .before .before .before .before .before .before in
+    let t = turn s in
+    let loop = t .before .loop in
+    let pre = start (t .before) .pre in
+    omega (arith, loop .inv .3 .small, loop .inv .0, pre .0 .periods .1, as-figure (s .before .side-sum .ensures .values) (pre .1 .few) .small)
 
 add-export : tie.Need-add-export Inv-loop μ-loop
 add-export c =
-    let loop = c .before .before .before .before .before .before .before .before .before .before .before .before .loop in
-    let pre = c .before .before .before .before .before .before .before .before .before .before .before .before .before .before .before .pre in
-    omega (arith, loop .inv .4 .small, loop .inv .0, pre .2, as-figure (c .before .before .before .before .before .before .before .before .before .side-sum2 .ensures .values) (pre .1 .few) .small)
+    let s = sums c in
+    let t = turn s in
+    let loop = t .before .loop in
+    let pre = start (t .before) .pre in
+    omega (arith, loop .inv .4 .small, loop .inv .0, pre .0 .periods .1, as-figure (s .side-sum2 .ensures .values) (pre .2 .few) .small)
 
 add-k : tie.Need-add-k Inv-loop μ-loop
-add-k c = omega (arith, c .before .before .before .before .before .before .before .before .before .before .before .loop-test .taken)
+add-k c = let t = turn (sums c) in omega (arith, t .loop-test .taken, start (t .before) .pre .0 .periods .1)
 
 loop-less : tie.Need-loop-less Inv-loop μ-loop
-loop-less c = omega (arith, c .before .before .before .before .before .before .before .before .before .before .before .loop-test .taken)
+loop-less c = omega (arith, turn (sums c) .loop-test .taken)
 
 loop-again : tie.Need-loop-again Inv-loop μ-loop
 loop-again c =
-    let loop = c .before .before .before .before .before .before .before .before .before .before .before .before .loop in
-    let pre = c .before .before .before .before .before .before .before .before .before .before .before .before .before .before .before .pre in
-    let taken = c .before .before .before .before .before .before .before .before .before .before .before .loop-test .taken in
-    let plus = c .before .before .before .before .before .before .before .before .before .before .side-sum .ensures in
-    let minus = c .before .before .before .before .before .before .before .before .before .side-sum2 .ensures in (
+    let s = sums c in
+    let t = turn s in
+    let loop = t .before .loop in
+    let pre = start (t .before) .pre in
+    let taken = t .loop-test .taken in
+    let plus = s .before .side-sum .ensures in
+    let minus = s .side-sum2 .ensures in (
       omega (arith, taken),
       c .before .before .before .before .before .before .before .put-net .ensures
-          ∙ fill _ _ (loop .numbers) (loop .k) _ (loop .inv .1) (omega (arith, taken, pre .4)) (ap₂ (λ x y. pos x -ℤ pos y) (plus .values .is) (minus .values .is)),
+          ∙ fill _ _ (loop .numbers) (loop .k) _ (loop .inv .1) (omega (arith, taken, pre .3)) (ap₂ (λ x y. pos x -ℤ pos y) (plus .values .is) (minus .values .is)),
       c .before .before .before .before .put-mark .ensures
-          ∙ fill _ _ (loop .marks) (loop .k) _ (loop .inv .2) (omega (arith, taken, pre .5)) (ap₂ (λ x y. cond (eqb (x + y) 0) 0 1) (plus .blank .is) (minus .blank .is)),
-      one-more (loop .inv .3) (as-figure (plus .values) (pre .0 .few)),
-      one-more (loop .inv .4) (as-figure (minus .values) (pre .1 .few)),
+          ∙ fill _ _ (loop .marks) (loop .k) _ (loop .inv .2) (omega (arith, taken, pre .4)) (ap₂ (λ x y. cond (eqb (x + y) 0) 0 1) (plus .blank .is) (minus .blank .is)),
+      one-more (loop .inv .3) (as-figure (plus .values) (pre .1 .few)),
+      one-more (loop .inv .4) (as-figure (minus .values) (pre .2 .few)),
     )
 
 same-length : tie.Need-same-length Inv-loop μ-loop
-same-length c = let loop = c .before .loop in filled-long _ _ (loop .numbers) (loop .k) (loop .inv .1) (omega (arith, loop .inv .0, c .before .before .before .before .pre .4))
+same-length c = let loop = c .before .loop in filled-long _ _ (loop .numbers) (loop .k) (loop .inv .1) (omega (arith, loop .inv .0, start (c .before) .pre .3))
 
 same-length-2 : tie.Need-same-length-2 Inv-loop μ-loop
-same-length-2 c = let loop = c .before .loop in filled-long _ _ (loop .marks) (loop .k) (loop .inv .2) (omega (arith, loop .inv .0, c .before .before .before .before .pre .5))
+same-length-2 c = let loop = c .before .loop in filled-long _ _ (loop .marks) (loop .k) (loop .inv .2) (omega (arith, loop .inv .0, start (c .before) .pre .4))
 
 returns : tie.Need-returns Inv-loop μ-loop
 returns c =
@@ -122,9 +129,7 @@ write-periods-spec =
     Inv-loop
     μ-loop
     loop-holds
-    add-side-sum
     side-sum-requires
-    add-side-sum-2
     side-sum-requires-2
     put-net-requires
     put-mark-requires

@@ -1,3 +1,4 @@
+-- `append` meets its contract: the copy leaves the buffer's first bytes and puts the text behind them.
 use native.Mathlib.Omega.{arith}
 use denote.Ref.{now}
 use Rattle.output.proofs.Laws.{part-appended}

@@ -1,3 +1,4 @@
+-- `append_byte` meets its contract: the byte stands behind the first `at`.
 use Rattle.output.proofs.Laws.{byte-appended}
 use borrow.Author.Needs.{needs}
 use Rattle.output.proofs.append.append_byte.Statement.{statement}

@@ -1,3 +1,4 @@
+-- `append_energy` meets its contract: three texts one behind the other, which read back as the Wh by the law on kWh.
 use Prim.Native.Nat.{_<_}
 use mathlib.Core.Path.{ap, _∙_}
 use denote.Ref.{now}

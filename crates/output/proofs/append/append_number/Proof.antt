@@ -1,3 +1,4 @@
+-- `append_number` meets its contract: a blank, then the digits that the kit's decimal gives, which are those of the definition.
 use Prim.Native.Nat.{_<_}
 use native.Mathlib.Omega.{arith}
 use Rattle.output.proofs.Laws.{join, digits-bound, number-appended}

@@ -1,3 +1,4 @@
+-- `append_accepted` meets its contract: two texts one behind the other.
 use Rattle.output.proofs.Laws.{join}
 use borrow.Author.Needs.{needs}
 use Rattle.output.proofs.lines.append_accepted.Statement.{statement}

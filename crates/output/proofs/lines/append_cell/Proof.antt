@@ -1,3 +1,4 @@
+-- `append_cell` meets its contract: by the two cases of the answer, each its texts one behind the other.
 use native.Mathlib.Omega.{arith}
 use Rattle.output.proofs.Laws.{join}
 use Rattle.output.specs.Lines.{answerLine}

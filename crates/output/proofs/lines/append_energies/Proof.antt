@@ -1,3 +1,4 @@
+-- `append_energies` meets its contract: three energies one behind the other.
 use native.Mathlib.Omega.{arith}
 use Rattle.output.proofs.Laws.{join}
 use borrow.Author.Needs.{needs}

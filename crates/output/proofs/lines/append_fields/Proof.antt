@@ -1,3 +1,4 @@
+-- `append_fields` meets its contract: the cell's four words one behind the other.
 use native.Mathlib.Omega.{arith}
 use Rattle.output.proofs.Laws.{join}
 use borrow.Author.Needs.{needs}

@@ -1,3 +1,4 @@
+-- `append_figures` meets its contract: the eleven figures one behind the other.
 use native.Mathlib.Omega.{arith}
 use Rattle.output.proofs.Laws.{join}
 use borrow.Author.Needs.{needs}

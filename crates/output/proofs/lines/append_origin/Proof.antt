@@ -1,3 +1,4 @@
+-- `append_origin` meets its contract: by whether the cell has an origin.
 use native.Mathlib.Omega.{arith}
 use borrow.Author.Tests.{eq-eqb, ne-eqb}
 use borrow.Author.Needs.{needs}

@@ -1,3 +1,4 @@
+-- `append_outcome` meets its contract: by the two cases of the answer.
 use native.Mathlib.Omega.{arith}
 use Rattle.output.proofs.Laws.{join}
 use Rattle.output.specs.Lines.{answerLine}

@@ -1,3 +1,4 @@
+-- `append_refused` meets its contract: command, `no`, number, place and the line's end one behind the other.
 use native.Mathlib.Omega.{arith}
 use Rattle.output.proofs.Laws.{join}
 use borrow.Author.Needs.{needs}

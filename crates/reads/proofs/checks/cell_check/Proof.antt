@@ -6,18 +6,18 @@ use Rattle.reads.proofs.CheckLaws.{date-passed, first-decides, rest-dec
 use Rattle.reads.proofs.checks.cell_check.Statement.{statement}
 use Rattle.reads.proofs.checks.cell_check.Tie as tie
 
-date-number-requires : tie.Need-date-number-requires
-date-number-requires c κs = search needs
+lent-number-requires : tie.Need-lent-number-requires
+lent-number-requires c κs = search needs
 
 returns : tie.Need-returns
 unfolding cellVerdict
-returns c = first-decides _ _ _ _ _ _ (c .before .date-number .ensures) (c .if1 .taken)
+returns c = first-decides _ _ _ _ _ _ (c .before .lent-number .ensures) (c .if1 .taken)
 
 period-number-requires : tie.Need-period-number-requires
-period-number-requires c κs = date-passed _ _ _ (sym (c .before .date-number .ensures) ∙ c .if1 .left) .0
+period-number-requires c κs = date-passed _ _ _ (sym (c .before .lent-number .ensures) ∙ c .if1 .left) .0
 
 run-number-requires : tie.Need-run-number-requires
-run-number-requires c κs = date-passed _ _ _ (sym (c .before .before .date-number .ensures) ∙ c .before .if1 .left)
+run-number-requires c κs = date-passed _ _ _ (sym (c .before .before .lent-number .ensures) ∙ c .before .if1 .left)
 
 first-failed-requires : tie.Need-first-failed-requires
 first-failed-requires c κs = search needs
@@ -26,14 +26,14 @@ returns-2 : tie.Need-returns-2
 unfolding cellVerdict
 returns-2 c =
     let b = c .before .before .before in
-    rest-decides _ _ _ _ _ _ (b .before .date-number .ensures) _ _ _ (b .if1 .left) (c .before .before .period-number .ensures)
+    rest-decides _ _ _ _ _ _ (b .before .lent-number .ensures) _ _ _ (b .if1 .left) (c .before .before .period-number .ensures)
     (c .before .run-number .ensures) (c .first-failed .ensures)
 
 pub cell-check-spec : {M : Type 1} → statement M
 cell-check-spec =
     tie.close
     (tie.spec
-    date-number-requires
+    lent-number-requires
     returns
     period-number-requires
     run-number-requires

@@ -1,55 +1,33 @@
--- `reads::checks::run_number` meets its contract: the date's first cell is within the part. Assumes nothing.
+-- `run_number` meets its contract: category 0 is there, and its column says whether the date is run.
 use native.Mathlib.Omega.{arith}
 use borrow.Author.Needs.{needs}
 use Rattle.ledger.specs.Ready.{ready}
 use Rattle.ledger.specs.Store.{rowLength}
 use Rattle.metering.specs.Laws.{failed, passed}
-use Rattle.reads.proofs.CheckLaws.{row-within, row-marked}
+use Rattle.store.proofs.ColumnLaws.{column-reaches}
 use Rattle.reads.proofs.checks.run_number.Statement.{statement}
 use Rattle.reads.proofs.checks.run_number.Tie as tie
 
-category-count-requires : tie.Need-category-count-requires
-category-count-requires c κs = let k = ready _ (c .before .before .pre .0) in omega arith
+column-of-requires : tie.Need-column-of-requires
+column-of-requires c κs = search needs
 
-period-count-requires : tie.Need-period-count-requires
-period-count-requires c κs = search needs
-
-mul-is-run : tie.Need-mul-is-run
-mul-is-run c =
-    let p = c .before .before .before .before .pre in
-    let h = row-within _ _ _ (p .1) (p .2) in
-    rw (c .before .category-count .ensures, c .period-count .ensures) (omega (arith, h))
-
-is-run-requires : tie.Need-is-run-requires
-is-run-requires c κs =
-    let p = c .before .before .before .before .pre in
-    rw (c .before .category-count .ensures, c .period-count .ensures) (row-marked _ _ _ (p .0) (p .1) (p .2))
+ran-on-requires : tie.Need-ran-on-requires
+ran-on-requires c κs =
+    let p = c .before .before .before .pre in
+    let k = ready _ (p .0) in
+    rw (c .column-of .ensures) (column-reaches _ _ _ 0 (p .0) (p .1) (p .2) (omega (arith, k .categories .0)))
 
 returns : tie.Need-returns
 unfolding rowLength
 returns c =
-    rw (
-      ← c .before .before .before .category-count .ensures,
-      ← c .before .before .period-count .ensures,
-      failed (c .before .is-run .ensures) (c .if1 .taken),
-    )
+    let unrun = rw (c .before .before .column-of .ensures) at (failed (c .before .ran-on .ensures) (c .if1 .taken)) in
+    rw unrun
 
 returns-2 : tie.Need-returns-2
 unfolding rowLength
 returns-2 c =
-    rw (
-      ← c .before .before .before .category-count .ensures,
-      ← c .before .before .period-count .ensures,
-      passed (c .before .is-run .ensures) (c .if1 .left),
-    )
+    let ran = rw (c .before .before .column-of .ensures) at (passed (c .before .ran-on .ensures) (c .if1 .left)) in
+    rw ran
 
 pub run-number-spec : {M : Type 1} → statement M
-run-number-spec =
-    tie.close
-    (tie.spec
-    category-count-requires
-    period-count-requires
-    mul-is-run
-    is-run-requires
-    returns
-    returns-2)
+run-number-spec = tie.close (tie.spec column-of-requires ran-on-requires returns returns-2)

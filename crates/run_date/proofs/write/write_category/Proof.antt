@@ -1,16 +1,27 @@
 -- `run_date::write::write_category` meets its contract: the family's rows start empty, and the row's writer puts what the definition says.
+use borrow.Author.Needs.{needs}
 use Prim.Native.Nat.{ℕ, _*_, _<_}
 use mathlib.Core.Path.{_≡_, ap, _∙_}
 use native.Mathlib.Omega.{arith}
-use borrow.Author.Needs.{needs}
-use lib.ListN.{length, getD, getD-replicate}
+use lib.ListN.{length, getD, replicate, getD-replicate}
 use Rattle.ledger.specs.Ready.{ready, periods-bound}
-use lib.ListN.{replicate}
 use Rattle.ledger.specs.Store.{periodsOf}
-use Rattle.run_date.proofs.Laws.{stretch, row-bounds, pooled-zero, averaged-own, averaged-family, category-gives}
-use borrow.Author.Needs.{needs}
+use Rattle.run_date.proofs.Laws.{start-asks, stretch, pooled-zero, averaged-own, averaged-family, category-gives}
 use Rattle.run_date.proofs.write.write_category.Statement.{statement}
 use Rattle.run_date.proofs.write.write_category.Tie as tie
+
+-- earlier places: the start and the family's sums from the stretch's place, and that from the row's writer
+abbrev pooled : tie.After-category-start → tie.After-pool-family
+pooled c = c .before .before .before .before
+
+abbrev start : tie.After-category-start → tie.Start
+start c = pooled c .before .before .before .before .before .before .before .before
+
+abbrev placed : tie.After-shape-row-arg → tie.After-category-start
+placed c = c .before .before .before .before .before
+
+at-is : (c : tie.After-category-start) → c .category-start .result ≡ start c .args .category * periodsOf (start c .args .settings .now)
+at-is c = c .category-start .ensures ∙ ap (λ (n : ℕ). start c .args .category * n) (c .before .period-count .ensures)
 
 slice-aggregate-pool-family : tie.Need-slice-aggregate-pool-family
 slice-aggregate-pool-family c = search needs
@@ -31,11 +42,11 @@ pool-family-requires c κs =
 period-count-requires : tie.Need-period-count-requires
 period-count-requires c κs = search needs
 
-mul-at : tie.Need-mul-at
-mul-at c =
+category-start-requires : tie.Need-category-start-requires
+category-start-requires c κs =
     let s = c .before .before .before .before .before .before .before .before .before .before .before in
     let S = s .args .settings .now in
-    rw (c .period-count .ensures) (omega (arith, stretch S (s .args .category) (s .pre .1 .1 .1), row-bounds S (ready S (s .pre .0 .0))))
+    start-asks S (s .args .category) _ (ready S (s .pre .0 .0)) (s .pre .1 .1 .1) (c .period-count .ensures)
 
 is-smart-requires : tie.Need-is-smart-requires
 is-smart-requires c κs = search needs
@@ -51,26 +62,26 @@ slice-aggregate-shape-row-2 c = search needs
 
 shape-row-requires : tie.Need-shape-row-requires
 shape-row-requires c κs =
-    let s = c .before .before .before .before .before .before .before .before .before .before .before .before .before .before .before .before in
+    let k = placed c in
+    let s = start k in
     let a = s .args in
     let S = a .settings .now in
     let known = ready S (s .pre .0 .0) in
     let fit = stretch S (a .category) (s .pre .1 .1 .1) in
     let len : length (a .row .now) ≡ periodsOf S = s .pre .1 .1 .3 in
-    let pooled = c .before .before .before .before .before .before .before .before .pool-family in
-    let most = periods-bound S known .1 in
-    rw (c .before .before .before .before .before .period-count .ensures) (
+    let family = pooled k .pool-family in
+    let most = periods-bound S known .1 in (
       (
         s .pre .1 .1 .2,
-        omega (arith, s .pre .0 .1),
-        omega (arith, s .pre .0 .2),
-        omega (arith, s .pre .1 .1 .0),
-        omega (arith, pooled .kept .1 .1 .1 .1 .0),
-        omega (arith, pooled .kept .1 .1 .1 .1 .1 .0),
+        omega (arith, at-is k, s .pre .0 .1),
+        omega (arith, at-is k, s .pre .0 .2),
+        omega (arith, at-is k, s .pre .1 .1 .0),
+        omega (arith, family .kept .1 .1 .1 .1 .0),
+        omega (arith, family .kept .1 .1 .1 .1 .1 .0),
       ),
       (
-        λ p l. averaged-own S _ _ _ known (s .pre .1 .0) (s .pre .1 .1 .1) p (rw len at l),
-        λ p l. averaged-family S _ _ _ known (s .pre .1 .0) _ _ (pooled .ensures .0) (pooled .ensures .1) p (rw len at l),
+        λ p l. averaged-own S _ _ _ known (s .pre .1 .0) _ (at-is k) (s .pre .1 .1 .1) p (rw len at l),
+        λ p l. averaged-family S _ _ _ known (s .pre .1 .0) _ _ (family .ensures .0) (family .ensures .1) p (rw len at l),
       ),
     )
 
@@ -79,15 +90,15 @@ same-length c = search needs
 
 returns : tie.Need-returns
 returns c =
-    let s = c .before .before .before .before .before .before .before .before .before .before .before .before .before .before .before .before .before .before .before in
+    let wrote = c .before .before in
+    let k = placed (wrote .before) in
+    let s = start k in
     let a = s .args in
-    let S = a .settings .now in
-    let pooled = c .before .before .before .before .before .before .before .before .before .before .before .pool-family in
-    let wrote = c .before .before .shape-row .ensures in
-    let gives = category-gives S (a .sums .now) (a .counts .now) (a .inherited .now) (a .date) (a .category) _ _ _ _ _ _
-    (c .before .before .before .before .before .before .before .is-smart .ensures) (c .before .before .before .before .before .before .de-minimis .ensures)
-    (ap (λ (n : ℕ). a .category * n) (c .before .before .before .before .before .before .before .before .period-count .ensures)) (s .pre .1 .1 .3) (pooled .ensures .0) (pooled .ensures .1) in
-    (wrote .0 ∙ gives .0, wrote .1 ∙ gives .1 _)
+    let family = pooled k .pool-family in
+    let minimum = wrote .before .before .before .before in
+    let gives = category-gives (a .settings .now) (a .sums .now) (a .counts .now) (a .inherited .now) (a .date) (a .category) _ _ _ _ _ _
+    (minimum .before .is-smart .ensures) (minimum .de-minimis .ensures) (at-is k) (s .pre .1 .1 .3) (family .ensures .0) (family .ensures .1) in
+    (wrote .shape-row .ensures .0 ∙ gives .0, wrote .shape-row .ensures .1 ∙ gives .1 _)
 
 pub write-category-spec : {M : Type 1} → statement M
 write-category-spec =
@@ -97,7 +108,7 @@ write-category-spec =
     slice-aggregate-pool-family-2
     pool-family-requires
     period-count-requires
-    mul-at
+    category-start-requires
     is-smart-requires
     de-minimis-requires
     slice-aggregate-shape-row

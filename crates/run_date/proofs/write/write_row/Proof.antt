@@ -10,7 +10,7 @@ use Rattle.ledger.specs.Table.{filling}
 use Rattle.run_rows.proofs.Laws.{filled-whole, differing-le, counted}
 use Rattle.ledger.proofs.Lists.{filling-length}
 use Rattle.run_date.specs.Sums.{rowFrom}
-use Rattle.run_date.proofs.Laws.{eight, stretch, row-bounds, part-width, next-stretch, row-start, count-start, row-step, count-step, row-end}
+use Rattle.run_date.proofs.Laws.{eight, start-asks, stretch, row-bounds, part-width, next-stretch, row-start, count-start, row-step, count-step, row-end}
 use Rattle.run_date.proofs.write.write_row.Statement.{statement}
 use Rattle.run_date.proofs.write.write_row.Tie as tie
 
@@ -23,34 +23,40 @@ Inv-loop settings sums counts inherited date row₀ categories periods moved₀ 
 abbrev μ-loop : tie.MeasureT-loop
 μ-loop settings sums counts inherited date row₀ categories periods moved₀ category₀ row moved category = categories - category
 
+-- earlier places: the start from the loop's body, the body from the turn's end
+abbrev start : tie.In-loop Inv-loop μ-loop → tie.Start Inv-loop μ-loop
+start c = c .before .before .before .before .before .before .before .before .before
+
+abbrev placed : tie.After-slice-known2 Inv-loop μ-loop → tie.After-category-start Inv-loop μ-loop
+placed c = c .before .before .before .before
+
 -- the numbers of a turn: the category's stretch, as the code has it, lies in the row
 fit : (c : tie.In-loop Inv-loop μ-loop) →
+    let S = start c .args .settings .now in
+    let l = c .before .loop in
     record {
-      low : c .before .loop .category < categoriesOf (c .before .before .before .before .before .before .before .before .before .args .settings .now);
-      whole :
-          c .before .loop .category * periodsOf (c .before .before .before .before .before .before .before .before .before .args .settings .now)
-          + periodsOf (c .before .before .before .before .before .before .before .before .before .args .settings .now)
-          ≤ rowLength (c .before .before .before .before .before .before .before .before .before .args .settings .now);
-      most : rowLength (c .before .before .before .before .before .before .before .before .before .args .settings .now) ≤ 6144;
-      inside :
-          c .before .loop .category * c .before .before .period-count .result + c .before .before .period-count .result ≤ length (c .before .loop .row);
-      small : length (c .before .loop .row) ≤ 6144;
+      low : l .category < categoriesOf S;
+      whole : l .category * periodsOf S + periodsOf S ≤ rowLength S;
+      most : rowLength S ≤ 6144;
+      long : length (l .row) ≡ rowLength S;
     }
 fit c =
-    let s = c .before .before .before .before .before .before .before .before .before in
+    let S = start c .args .settings .now in
     let l = c .before .loop in
-    let S = s .args .settings .now in
     let low : l .category < categoriesOf S = rw (← l .inv .0) (c .loop-test .taken) in
-    let whole = stretch S (l .category) low in
-    let most = row-bounds S (ready S (s .pre .0 .0)) .1 in
-    let long : length (l .row) ≡ rowLength S = l .inv .3 ∙ s .pre .1 .1 .2 in
     record {
       low = low;
-      whole = whole;
-      most = most;
-      inside = rw (l .inv .1, long) whole;
-      small = rw long most;
+      whole = stretch S (l .category) low;
+      most = row-bounds S (ready S (start c .pre .0 .0)) .1;
+      long = l .inv .3 ∙ start c .pre .1 .1 .2;
     }
+
+few : (n moved : ℕ) (f g : ℕ → ℕ) → moved ≡ differing n f g → moved ≤ n
+few n moved f g is = rw is (differing-le n f g)
+
+at-is : (c : tie.After-category-start Inv-loop μ-loop) →
+    c .category-start .result ≡ c .before .before .loop .category * periodsOf (start (c .before) .args .settings .now)
+at-is c = let l = c .before .before .loop in c .category-start .ensures ∙ ap (λ (n : ℕ). l .category * n) (l .inv .1)
 
 category-count-requires : tie.Need-category-count-requires Inv-loop μ-loop
 category-count-requires c κs = eight _ (c .before .before .before .before .before .pre .0 .0)
@@ -61,14 +67,16 @@ period-count-requires c κs = c .before .before .before .before .before .before 
 loop-holds : tie.Need-loop-holds Inv-loop μ-loop
 loop-holds c = (c .before .category-count .ensures, c .period-count .ensures, omega arith, refl, row-start _ _ _, count-start _ _ _)
 
-mul-at : tie.Need-mul-at Inv-loop μ-loop
-mul-at c = omega (arith, fit c)
+category-start-requires : tie.Need-category-start-requires Inv-loop μ-loop
+category-start-requires c κs =
+    let S = start c .args .settings .now in
+    start-asks S _ _ (ready S (start c .pre .0 .0)) (fit c .low) (c .before .loop .inv .1)
 
 add-end : tie.Need-add-end Inv-loop μ-loop
-add-end c = omega (arith, fit c)
+add-end c = omega (arith, fit (c .before), at-is c, c .before .before .loop .inv .1)
 
 mul-write-category : tie.Need-mul-write-category Inv-loop μ-loop
-mul-write-category c = omega (arith, fit c)
+mul-write-category c = omega (arith, fit (c .before), at-is c)
 
 sub-write-category : tie.Need-sub-write-category Inv-loop μ-loop
 sub-write-category c = omega arith
@@ -77,16 +85,16 @@ part-write-category-start : tie.Need-part-write-category-start Inv-loop μ-loop
 part-write-category-start c = omega arith
 
 part-write-category-end : tie.Need-part-write-category-end Inv-loop μ-loop
-part-write-category-end c = omega (arith, fit c)
+part-write-category-end c = omega (arith, fit (c .before), at-is c, c .before .before .loop .inv .1)
 
 write-category-requires : tie.Need-write-category-requires Inv-loop μ-loop
 write-category-requires c κs =
-    let s = c .before .before .before .before .before .before .before .before .before .before in
-    let l = c .before .before .loop in
-    let S = s .args .settings .now in
-    let f = fit (c .before) in
-    let n = c .before .before .before .period-count .result in
-    let at = l .category * n in (
+    let k = c .before in
+    let s = start (k .before) in
+    let l = k .before .before .loop in
+    let f = fit (k .before) in
+    let n = k .before .before .before .period-count .result in
+    let at = k .category-start .result in (
       s .pre .0,
       (
         s .pre .1 .0,
@@ -94,49 +102,51 @@ write-category-requires c κs =
           s .pre .1 .1 .0,
           f .low,
           s .pre .1 .1 .1,
-          part-width (l .row) at n (at + n - at) (omega arith) (f .inside) ∙ l .inv .1,
+          part-width (l .row) at n (at + n - at) (omega arith) (omega (arith, f, at-is k, l .inv .1)) ∙ l .inv .1,
         ),
       ),
     )
 
 add-moved : tie.Need-add-moved Inv-loop μ-loop
 add-moved c =
-    let l = c .before .before .before .before .before .loop in
-    let f = fit (c .before .before .before .before) in
-    let before : l .moved ≤ l .category * periodsOf (c .before .before .before .before .before .before .before .before .before .before .before .before .before .args .settings .now) = rw (l .inv .5) (differing-le _ _ _) in
-    let more : c .before .before .write-category .result ≤ periodsOf (c .before .before .before .before .before .before .before .before .before .before .before .before .before .args .settings .now) =
-    rw (c .before .before .write-category .ensures .1) (differing-le _ _ _) in
+    let k = placed c in
+    let l = k .before .before .loop in
+    let f = fit (k .before) in
+    let S = start (k .before) .args .settings .now in
+    let before : l .moved ≤ l .category * periodsOf S = few _ _ _ _ (l .inv .5) in
+    let more : c .before .before .write-category .result ≤ periodsOf S = few _ _ _ _ (c .before .before .write-category .ensures .1) in
     omega (arith, f .whole, f .most)
 
 add-category : tie.Need-add-category Inv-loop μ-loop
 add-category c =
-    let l = c .before .before .before .before .before .loop in
-    let known = ready _ (c .before .before .before .before .before .before .before .before .before .before .before .before .before .pre .0 .0) in
-    omega (arith, c .before .before .before .before .loop-test .taken, l .inv .0, known .categories .1)
+    let k = placed c in
+    let known = ready _ (start (k .before) .pre .0 .0) in
+    omega (arith, k .before .loop-test .taken, k .before .before .loop .inv .0, known .categories .1)
 
 loop-less : tie.Need-loop-less Inv-loop μ-loop
-loop-less c = omega (arith, c .before .before .before .before .loop-test .taken)
+loop-less c = omega (arith, placed c .before .loop-test .taken)
 
 loop-again : tie.Need-loop-again Inv-loop μ-loop
 loop-again c =
-    let s = c .before .before .before .before .before .before .before .before .before .before .before .before .before in
+    let k = placed c in
+    let s = start (k .before) in
     let a = s .args in
     let S = a .settings .now in
-    let l = c .before .before .before .before .before .loop in
-    let f = fit (c .before .before .before .before) in
+    let l = k .before .before .loop in
+    let f = fit (k .before) in
     let call = c .before .before .write-category in
     let known = ready S (s .pre .0 .0) in
-    let start = ap (λ (n : ℕ). l .category * n) (l .inv .1) in
-    let n = c .before .before .before .before .before .before .period-count .result in
-    let width : l .category * n + n - l .category * n ≡ periodsOf S = rw (← l .inv .1) (omega arith) in
-    let stepped = row-step S (a .sums .now) (a .counts .now) (a .inherited .now) (a .date) (l .category) _ _ known start width
+    let n = k .before .before .before .period-count .result in
+    let at = k .category-start .result in
+    let width : at + n - at ≡ periodsOf S = rw (← l .inv .1) (omega arith) in
+    let stepped = row-step S (a .sums .now) (a .counts .now) (a .inherited .now) (a .date) (l .category) _ _ known (at-is k) width
     (l .row) (a .row .now) (l .inv .4) _ (call .ensures .0) in (
       l .inv .0,
       l .inv .1,
-      omega (arith, c .before .before .before .before .loop-test .taken),
+      omega (arith, k .before .loop-test .taken),
       ap length stepped ∙ filling-length _ (a .row .now) _ (rw (next-stretch (l .category) (periodsOf S)) (omega (arith, f .whole, s .pre .1 .1 .2))),
       stepped,
-      count-step S (a .sums .now) (a .counts .now) (a .inherited .now) (a .date) (l .category) _ _ known start width
+      count-step S (a .sums .now) (a .counts .now) (a .inherited .now) (a .date) (l .category) _ _ known (at-is k) width
           (l .row) (a .row .now) (l .inv .4) _ _ (l .inv .5) (call .ensures .1),
     )
 
@@ -161,7 +171,7 @@ write-row-spec =
     category-count-requires
     period-count-requires
     loop-holds
-    mul-at
+    category-start-requires
     add-end
     mul-write-category
     sub-write-category

@@ -1,11 +1,11 @@
--- `run_rows::follow_row` meets its contract: of both rows the first k places are done, and as many are counted.
+-- `run_rows::later::follow_row` meets its contract: of both rows the first k places are done, and as many are counted.
 use Prim.Native.Nat.{_≤_, _-_}
 use mathlib.Core.Path.{_≡_, refl, sym, ap₂, _∙_}
 use native.Mathlib.Omega.{arith}
 use borrow.Author.Needs.{needs}
 use lib.ListN.{length, getD, length-set}
-use Rattle.ledger.specs.Calls.{differing}
-use Rattle.run_rows.specs.Later.{followedEntry, inheritedBeyond, differenceOf}
+use Rattle.ledger.specs.Calls.{differing, followedEntry, inheritedBeyond}
+use Rattle.run_rows.specs.Later.{differenceOf}
 use Rattle.ledger.specs.Table.{filling}
 use Rattle.run_rows.proofs.Laws.{unfilled, filled-whole, differing-zero, differing-le, differenceOf-le, count-next, counted}
 use Rattle.ledger.proofs.Lists.{filling-zero, fill, filled}
@@ -21,6 +21,13 @@ Inv-loop row₀ inherited₀ moved₀ k₀ row inherited moved k =
 
 abbrev μ-loop : tie.MeasureT-loop
 μ-loop row₀ inherited₀ moved₀ k₀ row inherited moved k = length row₀ - k
+
+-- the turn's head, and the function's start
+abbrev head : tie.After-difference Inv-loop μ-loop → tie.At-loop Inv-loop μ-loop
+head c = c .before .before .before .before .before
+
+abbrev start : tie.At-loop Inv-loop μ-loop → tie.Start Inv-loop μ-loop
+start c = c .before .before .before
 
 loop-holds : tie.Need-loop-holds Inv-loop μ-loop
 loop-holds c = (omega arith, refl, refl, sym (filling-zero _ _), sym (filling-zero _ _), sym (differing-zero _ _))
@@ -45,9 +52,9 @@ difference-requires c κs = search needs
 
 add-moved : tie.Need-add-moved Inv-loop μ-loop
 add-moved c =
-    let l = c .before .before .before .before .before .loop in
+    let a = start (head c) .args in
     let d : c .difference .result ≤ 1 = rw (c .difference .ensures) (differenceOf-le _ _) in
-    omega (arith, differing-le (l .k) (λ j. getD (c .before .before .before .before .before .before .before .before .args .row .now) j 0) (λ j. followedEntry (getD (c .before .before .before .before .before .before .before .before .args .row .now) j 0) (getD (c .before .before .before .before .before .before .before .before .args .inherited .now) j 0)))
+    omega (arith, differing-le (head c .loop .k) (λ j. getD (a .row .now) j 0) (λ j. followedEntry (getD (a .row .now) j 0) (getD (a .inherited .now) j 0)))
 
 mul-row : tie.Need-mul-row Inv-loop μ-loop
 mul-row c = omega arith
@@ -72,11 +79,11 @@ loop-less c = omega arith
 
 loop-again : tie.Need-loop-again Inv-loop μ-loop
 loop-again c =
-    let l = c .before .before .before .before .before .before .loop in
-    let s = c .before .before .before .before .before .before .before .before .before in
-    let old : getD (l .row) (l .k) 0 ≡ getD (s .args .row .now) (l .k) 0 = unfilled _ _ (l .row) (l .k) (l .inv .3) (omega arith) in
-    let before : getD (l .inherited) (l .k) 0 ≡ getD (s .args .inherited .now) (l .k) 0 = unfilled _ _ (l .inherited) (l .k) (l .inv .4) (omega arith) in
-    let new : c .before .before .followed .result ≡ followedEntry (getD (s .args .row .now) (l .k) 0) (getD (s .args .inherited .now) (l .k) 0) =
+    let l = head (c .before) .loop in
+    let a = start (head (c .before)) .args in
+    let old : getD (l .row) (l .k) 0 ≡ getD (a .row .now) (l .k) 0 = unfilled _ _ (l .row) (l .k) (l .inv .3) (omega arith) in
+    let before : getD (l .inherited) (l .k) 0 ≡ getD (a .inherited .now) (l .k) 0 = unfilled _ _ (l .inherited) (l .k) (l .inv .4) (omega arith) in
+    let new : c .before .before .followed .result ≡ followedEntry (getD (a .row .now) (l .k) 0) (getD (a .inherited .now) (l .k) 0) =
     c .before .before .followed .ensures ∙ ap₂ followedEntry old before in (
       omega arith,
       simp length-set (omega arith),
@@ -95,7 +102,7 @@ same-length-2 c = omega arith
 returns : tie.Need-returns Inv-loop μ-loop
 returns c =
     let l = c .before .loop in
-    let done : l .k ≡ length (c .before .before .before .before .args .row .now) = omega arith in (
+    let done : l .k ≡ length (start (c .before) .args .row .now) = omega arith in (
       filled-whole _ _ (l .row) (l .k) _ (l .inv .3) done refl,
       (filled _ _ (l .inherited) (l .k) _ (l .inv .4) done, counted _ _ (l .k) _ (l .moved) (l .inv .5) done),
     )

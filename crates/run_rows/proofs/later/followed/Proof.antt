@@ -1,6 +1,6 @@
--- `run_rows::followed` meets its contract.
+-- `run_rows::later::followed` meets its contract.
 use borrow.Author.Needs.{needs}
-use Rattle.run_rows.specs.Later.{followedEntry}
+use Rattle.ledger.specs.Calls.{followedEntry}
 use Rattle.run_rows.proofs.later.followed.Statement.{statement}
 use Rattle.run_rows.proofs.later.followed.Tie as tie
 

@@ -1,6 +1,6 @@
--- `run_rows::inherited_beyond` meets its contract.
+-- `run_rows::later::inherited_beyond` meets its contract.
 use borrow.Author.Needs.{needs}
-use Rattle.run_rows.specs.Later.{inheritedBeyond}
+use Rattle.ledger.specs.Calls.{inheritedBeyond}
 use Rattle.run_rows.proofs.later.inherited_beyond.Statement.{statement}
 use Rattle.run_rows.proofs.later.inherited_beyond.Tie as tie
 

@@ -1,6 +1,6 @@
 -- `run_rows::enough` meets its contract: the code's tests are the definition's.
 use borrow.Author.Tests.{le-leb, lt-leb}
-use Rattle.run_rows.specs.Shape.{isEnough}
+use Rattle.ledger.specs.Method.{isEnough}
 use Rattle.run_rows.proofs.shape.enough.Statement.{statement}
 use Rattle.run_rows.proofs.shape.enough.Tie as tie
 

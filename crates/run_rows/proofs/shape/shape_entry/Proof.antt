@@ -1,83 +1,98 @@
--- `run_rows::shape_entry` meets its contract, in each of the three cases of the method.
-use mathlib.Core.Path.{sym, ap, _∙_}
-use Prim.Native.Nat.{ℕ}
-use Rattle.ledger.specs.Method.{Fresh}
-use native.Mathlib.Omega.{arith}
-use Rattle.ledger.specs.Calls.{rowEntry}
-use Rattle.ledger.specs.Store.{entryOf}
-use Rattle.store.specs.Entry.{cellWith}
-use Rattle.run_rows.proofs.Laws.{enough-count, average-bound, fresh-own, fresh-pooled, fresh-absent, fresh-advanced}
+-- `run_rows::shape_entry` meets its contract, in each case of the method: an average of readings has room in an entry.
 use borrow.Author.Needs.{needs}
+use Prim.Native.Nat.{ℕ, _<_}
+use mathlib.Core.Path.{_≡_, sym, ap, _∙_}
+use mathlib.Core.Bool.{true, false}
+use Rattle.metering.specs.Average.{average}
+use Rattle.ledger.specs.Method.{isEnough, freshOf, ownCell, pooledCell}
+use Rattle.ledger.specs.Store.{entryOf}
+use Rattle.ledger.proofs.Entries.{shape-bound}
+use Rattle.ledger.proofs.Tallies.{enough-some, average-small}
+use Rattle.run_rows.specs.Shape.{Averaged}
 use Rattle.run_rows.proofs.shape.shape_entry.Statement.{statement}
 use Rattle.run_rows.proofs.shape.shape_entry.Tie as tie
+
+-- the start, seen from the first test and from the family's
+abbrev start : tie.After-enough → tie.Start
+start c = c .before
+
+abbrev start-family : tie.After-enough2 → tie.Start
+start-family c = c .before .before .before .before
+
+own-enough : (c : tie.Then1) → isEnough (start (c .before) .args .count) (start (c .before) .args .de-minimis) ≡ true
+own-enough c = sym (c .before .enough .ensures) ∙ c .if1 .taken
+
+own-few : (c : tie.Else1) → isEnough (start (c .before) .args .count) (start (c .before) .args .de-minimis) ≡ false
+own-few c = sym (c .before .enough .ensures) ∙ c .if1 .left
+
+family-enough : (c : tie.Then3) → isEnough (start-family (c .before) .args .family-count) (start-family (c .before) .args .de-minimis) ≡ true
+family-enough c = sym (c .before .enough2 .ensures) ∙ c .if3 .taken
+
+family-few : (c : tie.Else3) → isEnough (start-family (c .before) .args .family-count) (start-family (c .before) .args .de-minimis) ≡ false
+family-few c = sym (c .before .enough2 .ensures) ∙ c .if3 .left
+
+-- an average as the code has it
+small : (s n m v : ℕ) → isEnough n m ≡ true → Averaged s n → v ≡ average s n → v < 4294967296
+small s n m v enough bounds is = rw is (average-small s n (enough-some n m enough) (bounds .sum))
 
 enough-requires : tie.Need-enough-requires
 enough-requires c κs = search needs
 
 average-up-requires : tie.Need-average-up-requires
-average-up-requires c κs = enough-count _ _ (sym (c .before .enough .ensures) ∙ c .if1 .taken)
+average-up-requires c κs = enough-some _ _ (own-enough c)
+
+own-requires : tie.Need-own-requires
+own-requires c κs = search needs
 
 entry-of-requires : tie.Need-entry-of-requires
 entry-of-requires c κs =
-    let n1 = enough-count _ _ (sym (c .before .before .enough .ensures) ∙ c .before .if1 .taken) in
-    (omega arith, omega arith, rw (c .average-up .ensures) (average-bound _ _ n1 (c .before .before .before .pre .1 .0)), c .before .before .before .pre .1 .0 .count, c .before .before .before .pre .0)
+    let s = start (c .before .before .before) in
+    rw (c .own .ensures)
+    (shape-bound (ownCell (s .args .date) (c .before .average-up .result) (s .args .count))
+    (small (s .args .sum) (s .args .count) _ _ (own-enough (c .before .before)) (s .pre .1 .0) (c .before .average-up .ensures))
+    (s .pre .1 .0 .count) (s .pre .0))
 
 returns : tie.Need-returns
+unfolding freshOf
 returns c =
-    let s = c .before .before .before .before in
-    let a = s .args in
-    c .entry-of .ensures ∙ ap (λ (v : ℕ). entryOf (cellWith 1 v (a .count) (a .date))) (c .before .average-up .ensures)
-    ∙ sym
-    (ap (λ (f : Fresh). rowEntry (a .date) f (a .inherited))
-    (fresh-own (a .smart) (a .de-minimis) (a .sum) (a .count) (a .family-sum) (a .family-count)
-    (sym (c .before .before .before .enough .ensures) ∙ c .before .before .if1 .taken)))
+    let s = start (c .before .before .before .before) in
+    rw (own-enough (c .before .before .before))
+    (c .entry-of .ensures
+    ∙ ap entryOf (c .before .own .ensures ∙ ap (λ (v : ℕ). ownCell (s .args .date) v (s .args .count)) (c .before .before .average-up .ensures)))
 
 enough-requires-2 : tie.Need-enough-requires-2
 enough-requires-2 c κs = search needs
 
 average-up-requires-2 : tie.Need-average-up-requires-2
-average-up-requires-2 c κs = enough-count _ _ (sym (c .before .enough2 .ensures) ∙ c .if3 .taken)
+average-up-requires-2 c κs = enough-some _ _ (family-enough c)
+
+pooled-requires : tie.Need-pooled-requires
+pooled-requires c κs = search needs
 
 entry-of-requires-2 : tie.Need-entry-of-requires-2
 entry-of-requires-2 c κs =
-    let s = c .before .before .before .before .before .before in
-    let low = enough-count _ _ (sym (c .before .before .enough2 .ensures) ∙ c .before .if3 .taken) in (
-      omega arith,
-      omega arith,
-      rw (c .average-up2 .ensures) (average-bound _ _ low (s .pre .1 .1)),
-      s .pre .1 .1 .count,
-      s .pre .0,
-    )
+    let s = start-family (c .before .before .before) in
+    rw (c .pooled .ensures)
+    (shape-bound (pooledCell (s .args .date) (c .before .average-up2 .result) (s .args .family-count))
+    (small (s .args .family-sum) (s .args .family-count) _ _ (family-enough (c .before .before)) (s .pre .1 .1) (c .before .average-up2 .ensures))
+    (s .pre .1 .1 .count) (s .pre .0))
 
 returns-2 : tie.Need-returns-2
+unfolding freshOf
 returns-2 c =
-    let a = c .before .before .before .before .before .before .before .args in
-    c .entry-of2 .ensures ∙ ap (λ (v : ℕ). entryOf (cellWith 2 v (a .family-count) (a .date))) (c .before .average-up2 .ensures)
-    ∙ sym
-    (ap (λ (f : Fresh). rowEntry (a .date) f (a .inherited))
-    (fresh-pooled (a .smart) (a .de-minimis) (a .sum) (a .count) (a .family-sum) (a .family-count)
-    (sym (c .before .before .before .before .before .before .enough .ensures) ∙ c .before .before .before .before .before .if1 .left)
-    (c .before .before .before .before .if2 .taken)
-    (sym (c .before .before .before .enough2 .ensures) ∙ c .before .before .if3 .taken)))
+    let smart = c .before .before .before .before .before in
+    let s = start-family (c .before .before .before .before) in
+    rw (own-few (smart .before), smart .if2 .taken, family-enough (c .before .before .before))
+    (c .entry-of2 .ensures
+    ∙ ap entryOf (c .before .pooled .ensures ∙ ap (λ (v : ℕ). pooledCell (s .args .date) v (s .args .family-count)) (c .before .before .average-up2 .ensures)))
 
 returns-3 : tie.Need-returns-3
-returns-3 c =
-    let a = c .before .before .before .before .before .args in
-    sym
-    (ap (λ (f : Fresh). rowEntry (a .date) f (a .inherited))
-    (fresh-absent (a .smart) (a .de-minimis) (a .sum) (a .count) (a .family-sum) (a .family-count)
-    (sym (c .before .before .before .before .enough .ensures) ∙ c .before .before .before .if1 .left)
-    (c .before .before .if2 .taken)
-    (sym (c .before .enough2 .ensures) ∙ c .if3 .left)))
+unfolding freshOf
+returns-3 c = let smart = c .before .before in rw (own-few (smart .before), smart .if2 .taken, family-few c)
 
 returns-4 : tie.Need-returns-4
-returns-4 c =
-    let a = c .before .before .before .args in
-    sym
-    (ap (λ (f : Fresh). rowEntry (a .date) f (a .inherited))
-    (fresh-advanced (a .smart) (a .de-minimis) (a .sum) (a .count) (a .family-sum) (a .family-count)
-    (sym (c .before .before .enough .ensures) ∙ c .before .if1 .left)
-    (c .if2 .left)))
+unfolding freshOf
+returns-4 c = rw (own-few (c .before), c .if2 .left)
 
 pub shape-entry-spec : {M : Type 1} → statement M
 shape-entry-spec =
@@ -85,10 +100,12 @@ shape-entry-spec =
     (tie.spec
     enough-requires
     average-up-requires
+    own-requires
     entry-of-requires
     returns
     enough-requires-2
     average-up-requires-2
+    pooled-requires
     entry-of-requires-2
     returns-2
     returns-3

@@ -1,8 +1,9 @@
--- `category_byte` meets its contract: the records start at byte 8.
+-- `category_byte` meets its contract: the records start behind the header.
 use native.Mathlib.Omega.{arith}
 use Prim.Native.Nat.{_+_, _*_}
 use mathlib.Core.Path.{sym, _∙_}
 use lib.Seq.{getD-drop}
+use Rattle.ledger.specs.Sizes.{headerLength}
 use Rattle.ledger.specs.Ready.{ready}
 use Rattle.store.proofs.category.category_byte.Statement.{statement}
 use Rattle.store.proofs.category.category_byte.Tie as tie
@@ -23,7 +24,7 @@ returns : tie.Need-returns
 returns c =
     let a = c .before .before .args in
     record {
-      is = c .byte-at .ensures .is ∙ sym (getD-drop 8 (a .settings .now) (8 * a .category + a .k) 0);
+      is = c .byte-at .ensures .is ∙ sym (getD-drop headerLength (a .settings .now) (8 * a .category + a .k) 0);
       small = c .byte-at .ensures .small;
     }
 

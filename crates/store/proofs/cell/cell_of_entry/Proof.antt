@@ -1,15 +1,18 @@
--- `store::cell::cell_of_entry` meets its contract. Assumes nothing.
+-- `store::cell::cell_of_entry` meets its contract: field by field.
 use borrow.Author.Needs.{needs}
 use Rattle.ledger.specs.Store.{cellOfEntry}
 use Rattle.store.proofs.cell.cell_of_entry.Statement.{statement}
 use Rattle.store.proofs.cell.cell_of_entry.Tie as tie
 
-entry-flag-requires : tie.Need-entry-flag-requires
-entry-flag-requires c κs = search needs
+flag-number-requires : tie.Need-flag-number-requires
+flag-number-requires c κs = search needs
+
+flag-of-requires : tie.Need-flag-of-requires
+flag-of-requires c κs = search needs
 
 returns : tie.Need-returns
 unfolding cellOfEntry
-returns c = rw (c .entry-flag .ensures)
+returns c = rw (c .flag-of .ensures, c .before .flag-number .ensures)
 
 pub cell-of-entry-spec : {M : Type 1} → statement M
-cell-of-entry-spec = tie.close (tie.spec entry-flag-requires returns)
+cell-of-entry-spec = tie.close (tie.spec flag-number-requires flag-of-requires returns)

@@ -1,4 +1,4 @@
--- `settings_ready` meets its contract. Fewer than eight bytes are fewer than any least length.
+-- `settings_ready` meets its contract. Fewer bytes than the header's are fewer than any least length.
 use borrow.Author.Needs.{needs}
 use native.Mathlib.Omega.{arith}
 use mathlib.Core.Path.{sym}

@@ -1,0 +1,2 @@
+-- Laws of what commands print and leave.
+pub mod Laws

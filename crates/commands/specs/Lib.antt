@@ -1,0 +1,2 @@
+-- What the contracts of commands cite.
+pub mod Commands

@@ -1,0 +1,23 @@
+-- A date's row lies in cells that are long enough: there are as many rows as dates.
+use Prim.Native.Nat.{ℕ, _+_, _*_, _≤_, _<_}
+use mathlib.Core.Path.{_≡_}
+use mathlib.Core.Bool.{true}
+use mathlib.Core.List.{List}
+use native.Mathlib.Nat.{mul-le-mul-right, suc-mul}
+use native.Mathlib.Omega.{arith}
+use lib.ListN.{length}
+use borrow.Author.Tests.{leb-true}
+use Rattle.ledger.specs.Sizes.{cellsLength}
+use Rattle.ledger.specs.Store.{datesOf, rowLength, cellsReady}
+
+cells-long : (s cells : List ℕ) → cellsReady s cells ≡ true → datesOf s * rowLength s ≤ length cells
+unfolding cellsReady cellsLength rowLength
+cells-long s cells h = leb-true _ _ h
+
+pub row-fits : (s cells : List ℕ) (d : ℕ) → cellsReady s cells ≡ true → d < datesOf s → d * rowLength s + rowLength s ≤ length cells
+row-fits s cells d h l = omega (arith, cells-long s cells h, suc-mul d (rowLength s), mul-le-mul-right (rowLength s) l)
+
+-- the cells stay ready when their length does
+pub still-ready : (s cells cells′ : List ℕ) → length cells′ ≡ length cells → cellsReady s cells ≡ true → cellsReady s cells′ ≡ true
+unfolding cellsReady
+still-ready s cells cells′ e h = rw e h
