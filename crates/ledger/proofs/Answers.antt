@@ -52,24 +52,24 @@ module _ (duration periods w : ℕ) (run run′ : ℕ → Bool) (cell cell′ : 
   unfolding peakOn
   peak-cong x h r = rw (tot-cong x h r, off-cong x h r)
 
-  over : (n : ℕ) (f f′ : ℕ → ℕ) → ((x : ℕ) → x ≤ d → run x ≡ true → f x ≡ f′ x) → overRunDates run n f d ≡ overRunDates run′ n f′ d
-  over n f f′ h = over-cong run run′ n f f′ d same h
+  over-alike : (n : ℕ) (f f′ : ℕ → ℕ) → ((x : ℕ) → x ≤ d → run x ≡ true → f x ≡ f′ x) → overRunDates run n f d ≡ overRunDates run′ n f′ d
+  over-alike n f f′ h = over-cong run run′ n f f′ d same h
 
   totals-cong : run d ≡ true → totalsOn duration periods w run cell d ≡ totalsOn duration periods w run′ cell′ d
   unfolding totalsOn
   totals-cong r =
-      let days : overRunDates run 365 (λ _. 1) d ≡ overRunDates run′ 365 (λ _. 1) d = over 365 (λ _. 1) (λ _. 1) (λ x h q. refl) in
+      let days : overRunDates run 365 (λ _. 1) d ≡ overRunDates run′ 365 (λ _. 1) d = over-alike 365 (λ _. 1) (λ _. 1) (λ x h q. refl) in
       let here : (k : ℕ) → k < periods → cell d (suc k) ≡ cell′ d (suc k) = λ k l. alike d k (omega arith) r l in
       λ i.
       record {
         tot = tot-cong d (omega arith) r i;
         off = off-cong d (omega arith) r i;
         peak = peak-cong d (omega arith) r i;
-        tot7 = over 7 _ _ tot-cong i;
-        off7 = over 7 _ _ off-cong i;
-        peak7 = over 7 _ _ peak-cong i;
-        days7 = over 7 (λ _. 1) (λ _. 1) (λ x h q. refl) i;
-        ann = annual (over 365 _ _ tot-cong i) (days i);
+        tot7 = over-alike 7 _ _ tot-cong i;
+        off7 = over-alike 7 _ _ off-cong i;
+        peak7 = over-alike 7 _ _ peak-cong i;
+        days7 = over-alike 7 (λ _. 1) (λ _. 1) (λ x h q. refl) i;
+        ann = annual (over-alike 365 _ _ tot-cong i) (days i);
         days = days i;
         fresh = sumBelow-cong periods (λ k. isFresh (cell d (suc k) .flag)) (λ k. isFresh (cell′ d (suc k) .flag)) (λ k l. ap (λ a. isFresh (a .flag)) (here k l)) i;
         blanks = sumBelow-cong periods (λ k. isBlank (cell d (suc k) .flag)) (λ k. isBlank (cell′ d (suc k) .flag)) (λ k l. ap (λ a. isBlank (a .flag)) (here k l)) i;

@@ -17,11 +17,11 @@ use Rattle.metering.specs.Range.{between}
 
 -- what a call answered, and the negated test on it
 
-pub failed : {r x : Bool} → r ≡ x → not r ≡ true → x ≡ false
-failed e t = sym e ∙ not-true _ t
+pub test-failed : {r x : Bool} → r ≡ x → not r ≡ true → x ≡ false
+test-failed e t = sym e ∙ not-true _ t
 
-pub passed : {r x : Bool} → r ≡ x → not r ≡ false → x ≡ true
-passed e t = sym e ∙ not-false _ t
+pub test-passed : {r x : Bool} → r ≡ x → not r ≡ false → x ≡ true
+test-passed e t = sym e ∙ not-false _ t
 
 pub both-leb : (a b c d : ℕ) → (leb a b && leb c d ≡ true) ↔ ((a ≤ b) × (c ≤ d))
 both-leb a b c d = (

@@ -89,7 +89,13 @@ fn run_with(
     settle(settings, sums, counts, inherited, cells, date)
 }
 
-fn run_date(settings: &[u8], meters: &[u64], readings: &[u64], cells: &mut [u64], date: u64) -> u64
+fn run_accepted(
+    settings: &[u8],
+    meters: &[u64],
+    readings: &[u64],
+    cells: &mut [u64],
+    date: u64,
+) -> u64
     requires { ⌜ (settingsReady (now settings) ≡ true) × (metersReady (now settings) (now meters) ≡ true) × (readingsReady (now settings) (now readings) ≡ true) × (cellsReady (now settings) (now cells) ≡ true) × (date < datesOf (now settings)) ⌝ }
     ensures { λ r. ⌜ now (cells .exit) ≡ ranFrom (now (settings .entry)) (now (meters .entry)) (now (readings .entry)) (now (cells .entry)) date .cells ⌝ }
     ensures { λ r. ⌜ r ≡ ranFrom (now (settings .entry)) (now (meters .entry)) (now (readings .entry)) (now (cells .entry)) date .moved ⌝ }
@@ -123,5 +129,5 @@ pub fn run(
     if number != 0 {
         return RunOutcome::Refused { number, place: 0 };
     }
-    RunOutcome::Moved(run_date(settings, meters, readings, cells, date))
+    RunOutcome::Moved(run_accepted(settings, meters, readings, cells, date))
 }

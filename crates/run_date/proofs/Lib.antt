@@ -1,1 +1,2 @@
+-- Laws that the proofs of a date's row share.
 pub mod Laws

@@ -1,1 +1,2 @@
+-- Laws of rows that several proofs cite.
 pub mod Laws

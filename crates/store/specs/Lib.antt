@@ -1,6 +1,5 @@
 -- What the store's leaves say beyond the ledger crate's definitions.
 pub mod Access
-pub mod Bounds
 pub mod Cell
 pub mod Column
 pub mod Entry

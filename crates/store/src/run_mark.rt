@@ -11,10 +11,9 @@ pub fn flag_number(entry: u64) -> u64
     entry % 8
 }
 
-// `row` is the number of cells of a date.
-pub fn is_run(row: u64, cells: &[u64], date: u64) -> bool
-    requires { ⌜ date * row < length (now cells) ⌝ }
-    ensures { λ r. ⌜ r ≡ isRunAt row (now (cells .entry)) date ⌝ }
+pub fn is_run(row_length: u64, cells: &[u64], date: u64) -> bool
+    requires { ⌜ date * «row_length» < length (now cells) ⌝ }
+    ensures { λ r. ⌜ r ≡ isRunAt «row_length» (now (cells .entry)) date ⌝ }
 {
-    flag_number(entry_at(cells, date * row)) != 0
+    flag_number(entry_at(cells, date * row_length)) != 0
 }

@@ -1,4 +1,4 @@
--- `reads::read_totals` meets its contract: the verdict's answer, or what is read. Assumes nothing.
+-- `reads::read_totals` meets its contract: the verdict's answer, or what is read.
 use mathlib.Core.Path.{refl, ap, sym, _∙_}
 use borrow.Author.Needs.{needs}
 use Rattle.ledger.specs.Ledger.{totalsAre}

@@ -26,8 +26,8 @@ returns c =
       kept-is v _ is _ _ (c .if1 .taken),
     )
 
-run-date-requires : tie.Need-run-date-requires
-run-date-requires c κs =
+run-accepted-requires : tie.Need-run-accepted-requires
+run-accepted-requires c κs =
     let a = start (c .before .before) .args in
     accepted-run (a .settings .now) (a .meters .now) (a .readings .now) (a .cells .now) (a .date)
     (sym (c .before .before .run-number .ensures) ∙ c .before .if1 .left)
@@ -43,10 +43,10 @@ returns-2 c =
     let v = runVerdict (a .settings .now) (a .meters .now) (a .readings .now) (a .cells .now) (a .date) in
     let is : n .run-number .result ≡ v .number = n .run-number .ensures in
     let passed = d .before .before .if1 .left in
-    let e = d .run-date .ensures in
+    let e = d .run-accepted .ensures in
     (ap moved (e .1) ∙ given-is v _ is _ passed, e .0 ∙ after-is v _ is _ _ passed)
 
 pub run-spec : {M : Type 1} → statement M
 run-spec =
     tie.close
-    (tie.spec run-number-requires same-length returns run-date-requires same-length-2 returns-2)
+    (tie.spec run-number-requires same-length returns run-accepted-requires same-length-2 returns-2)

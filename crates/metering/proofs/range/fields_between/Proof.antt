@@ -1,6 +1,6 @@
 -- `fields_between` meets its contract: the definition's `&&` computes from what `field_between` answered, field by field.
 use borrow.Author.Needs.{needs}
-use Rattle.metering.specs.Laws.{failed, passed}
+use Rattle.metering.specs.Laws.{test-failed, test-passed}
 use Rattle.metering.specs.Range.{fieldsBetween}
 use Rattle.metering.proofs.range.fields_between.Statement.{statement}
 use Rattle.metering.proofs.range.fields_between.Tie as tie
@@ -10,7 +10,7 @@ field-between-requires c κs = search needs
 
 returns : tie.Need-returns
 unfolding fieldsBetween
-returns c = rw (failed (c .before .field-between .ensures) (c .if1 .taken))
+returns c = rw (test-failed (c .before .field-between .ensures) (c .if1 .taken))
 
 field-between-requires-2 : tie.Need-field-between-requires-2
 field-between-requires-2 c κs = search needs
@@ -20,8 +20,8 @@ unfolding fieldsBetween
 returns-2 c =
     let c1 = c .before .before in
     rw (
-      passed (c1 .before .field-between .ensures) (c1 .if1 .left),
-      failed (c .before .field-between2 .ensures) (c .if2 .taken),
+      test-passed (c1 .before .field-between .ensures) (c1 .if1 .left),
+      test-failed (c .before .field-between2 .ensures) (c .if2 .taken),
     )
 
 field-between-requires-3 : tie.Need-field-between-requires-3
@@ -33,9 +33,9 @@ returns-3 c =
     let c2 = c .before .before in
     let c1 = c2 .before .before in
     rw (
-      passed (c1 .before .field-between .ensures) (c1 .if1 .left),
-      passed (c2 .before .field-between2 .ensures) (c2 .if2 .left),
-      failed (c .before .field-between3 .ensures) (c .if3 .taken),
+      test-passed (c1 .before .field-between .ensures) (c1 .if1 .left),
+      test-passed (c2 .before .field-between2 .ensures) (c2 .if2 .left),
+      test-failed (c .before .field-between3 .ensures) (c .if3 .taken),
     )
 
 field-between-requires-4 : tie.Need-field-between-requires-4
@@ -48,10 +48,10 @@ returns-4 c =
     let c2 = c3 .before .before in
     let c1 = c2 .before .before in
     rw (
-      passed (c1 .before .field-between .ensures) (c1 .if1 .left),
-      passed (c2 .before .field-between2 .ensures) (c2 .if2 .left),
-      passed (c3 .before .field-between3 .ensures) (c3 .if3 .left),
-      failed (c .before .field-between4 .ensures) (c .if4 .taken),
+      test-passed (c1 .before .field-between .ensures) (c1 .if1 .left),
+      test-passed (c2 .before .field-between2 .ensures) (c2 .if2 .left),
+      test-passed (c3 .before .field-between3 .ensures) (c3 .if3 .left),
+      test-failed (c .before .field-between4 .ensures) (c .if4 .taken),
     )
 
 field-between-requires-5 : tie.Need-field-between-requires-5
@@ -65,10 +65,10 @@ returns-5 c =
     let c2 = c3 .before .before in
     let c1 = c2 .before .before in
     rw (
-      passed (c1 .before .field-between .ensures) (c1 .if1 .left),
-      passed (c2 .before .field-between2 .ensures) (c2 .if2 .left),
-      passed (c3 .before .field-between3 .ensures) (c3 .if3 .left),
-      passed (c4 .before .field-between4 .ensures) (c4 .if4 .left),
+      test-passed (c1 .before .field-between .ensures) (c1 .if1 .left),
+      test-passed (c2 .before .field-between2 .ensures) (c2 .if2 .left),
+      test-passed (c3 .before .field-between3 .ensures) (c3 .if3 .left),
+      test-passed (c4 .before .field-between4 .ensures) (c4 .if4 .left),
     ) (c .field-between5 .ensures)
 
 pub fields-between-spec : {M : Type 1} → statement M

@@ -1,7 +1,7 @@
--- `net::checks::partner_number` meets its contract. Assumes nothing.
+-- `net::checks::partner_number` meets its contract.
 use borrow.Author.Needs.{needs}
 use borrow.Author.Tests.{eq-eqb, ne-eqb}
-use Rattle.metering.specs.Laws.{failed, passed}
+use Rattle.metering.specs.Laws.{test-failed, test-passed}
 use Rattle.net.specs.Sides.{pairedWith}
 use Rattle.net.proofs.checks.partner_number.Statement.{statement}
 use Rattle.net.proofs.checks.partner_number.Tie as tie
@@ -11,7 +11,7 @@ is-smart-requires c κs = search needs
 
 returns : tie.Need-returns
 unfolding pairedWith
-returns c = rw (failed (c .before .is-smart .ensures) (c .if1 .taken))
+returns c = rw (test-failed (c .before .is-smart .ensures) (c .if1 .taken))
 
 quantity-requires : tie.Need-quantity-requires
 quantity-requires c κs = search needs
@@ -20,7 +20,7 @@ returns-2 : tie.Need-returns-2
 unfolding pairedWith
 returns-2 c =
     let b = c .before .before in
-    rw (passed (b .before .is-smart .ensures) (b .if1 .left), ← c .before .quantity .ensures, ne-eqb _ _ (c .if2 .taken))
+    rw (test-passed (b .before .is-smart .ensures) (b .if1 .left), ← c .before .quantity .ensures, ne-eqb _ _ (c .if2 .taken))
 
 returns-3 : tie.Need-returns-3
 unfolding pairedWith
@@ -28,7 +28,7 @@ returns-3 c =
     let b2 = c .before in
     let b = b2 .before .before in
     rw (
-      passed (b .before .is-smart .ensures) (b .if1 .left),
+      test-passed (b .before .is-smart .ensures) (b .if1 .left),
       ← b2 .before .quantity .ensures,
       eq-eqb _ _ (b2 .if2 .left),
       eq-eqb _ _ (c .if3 .taken),
@@ -40,7 +40,7 @@ returns-4 c =
     let b2 = c .before in
     let b = b2 .before .before in
     rw (
-      passed (b .before .is-smart .ensures) (b .if1 .left),
+      test-passed (b .before .is-smart .ensures) (b .if1 .left),
       ← b2 .before .quantity .ensures,
       eq-eqb _ _ (b2 .if2 .left),
       ne-eqb _ _ (c .if3 .left),

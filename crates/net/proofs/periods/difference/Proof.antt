@@ -1,4 +1,4 @@
--- `net::periods::difference` meets its contract: two numbers below 2 ^ 63 have a difference of 64 bits. Assumes nothing.
+-- `net::periods::difference` meets its contract: two numbers below 2 ^ 63 have a difference of 64 bits.
 use borrow.Author.Needs.{needs}
 use mir.Facts.{toZ-ofZ}
 use Rattle.net.proofs.SignedLaws.{toZ-pos, minus-fits}

@@ -1,4 +1,4 @@
--- `net::periods::put_mark` meets its contract. Assumes nothing.
+-- `net::periods::put_mark` meets its contract.
 use borrow.Author.Tests.{eq-eqb, ne-eqb}
 use borrow.Author.Needs.{needs}
 use Rattle.net.proofs.periods.put_mark.Statement.{statement}

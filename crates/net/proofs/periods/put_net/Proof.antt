@@ -1,4 +1,4 @@
--- `net::periods::put_net` meets its contract. Assumes nothing.
+-- `net::periods::put_net` meets its contract.
 use mathlib.Core.Path.{ap}
 use lib.ListN.{set}
 use Rattle.net.proofs.SignedLaws.{difference-back}

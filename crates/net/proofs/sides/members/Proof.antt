@@ -1,4 +1,4 @@
--- `net::sides::members` meets its contract. The invariant: those found so far are the ones chosen below the category reached. Assumes nothing.
+-- `net::sides::members` meets its contract. The invariant: those found so far are the ones chosen below the category reached.
 use Prim.Native.Nat.{_≤_, _-_}
 use native.Mathlib.Omega.{arith}
 use Rattle.ledger.specs.Net.{onSide, chosenBelow, sideOf}

@@ -1,4 +1,4 @@
--- `net::sides::with_member` meets its contract. Assumes nothing.
+-- `net::sides::with_member` meets its contract.
 use native.Mathlib.Omega.{arith}
 use Rattle.net.proofs.SideLaws.{member-added, member-left}
 use Rattle.net.proofs.sides.with_member.Statement.{statement}

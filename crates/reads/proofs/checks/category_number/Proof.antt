@@ -1,4 +1,4 @@
--- `reads::checks::category_number` meets its contract. Assumes nothing.
+-- `reads::checks::category_number` meets its contract.
 use native.Mathlib.Omega.{arith}
 use borrow.Author.Tests.{lt-ltb, le-ltb}
 use Rattle.ledger.specs.Checks.{totalsInRange}

@@ -1,4 +1,4 @@
--- `reads::checks::first_failed` meets its contract. Assumes nothing.
+-- `reads::checks::first_failed` meets its contract.
 use borrow.Author.Tests.{eq-eqb, ne-eqb}
 use Rattle.reads.proofs.checks.first_failed.Statement.{statement}
 use Rattle.reads.proofs.checks.first_failed.Tie as tie

@@ -1,4 +1,4 @@
--- `reads::checks::period_number` meets its contract. Assumes nothing.
+-- `reads::checks::period_number` meets its contract.
 use native.Mathlib.Omega.{arith}
 use borrow.Author.Needs.{needs}
 use borrow.Author.Tests.{lt-ltb, le-ltb}

@@ -3,7 +3,7 @@ use native.Mathlib.Omega.{arith}
 use borrow.Author.Needs.{needs}
 use Rattle.ledger.specs.Ready.{ready}
 use Rattle.ledger.specs.Store.{rowLength}
-use Rattle.metering.specs.Laws.{failed, passed}
+use Rattle.metering.specs.Laws.{test-failed, test-passed}
 use Rattle.store.proofs.ColumnLaws.{column-reaches}
 use Rattle.reads.proofs.checks.run_number.Statement.{statement}
 use Rattle.reads.proofs.checks.run_number.Tie as tie
@@ -20,13 +20,13 @@ ran-on-requires c κs =
 returns : tie.Need-returns
 unfolding rowLength
 returns c =
-    let unrun = rw (c .before .before .column-of .ensures) at (failed (c .before .ran-on .ensures) (c .if1 .taken)) in
+    let unrun = rw (c .before .before .column-of .ensures) at (test-failed (c .before .ran-on .ensures) (c .if1 .taken)) in
     rw unrun
 
 returns-2 : tie.Need-returns-2
 unfolding rowLength
 returns-2 c =
-    let ran = rw (c .before .before .column-of .ensures) at (passed (c .before .ran-on .ensures) (c .if1 .left)) in
+    let ran = rw (c .before .before .column-of .ensures) at (test-passed (c .before .ran-on .ensures) (c .if1 .left)) in
     rw ran
 
 pub run-number-spec : {M : Type 1} → statement M

@@ -1,4 +1,4 @@
--- `reads::checks::totals_check` meets its contract: the first failed check decides. Assumes nothing.
+-- `reads::checks::totals_check` meets its contract: the first failed check decides.
 use mathlib.Core.Path.{sym, _∙_}
 use borrow.Author.Needs.{needs}
 use Rattle.ledger.specs.Calls.{totalsVerdict}

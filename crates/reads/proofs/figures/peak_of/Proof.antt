@@ -1,4 +1,4 @@
--- `reads::figures::peak_of` meets its contract. Assumes nothing.
+-- `reads::figures::peak_of` meets its contract.
 use borrow.Author.Needs.{needs}
 use borrow.Author.Tests.{eq-eqb, ne-eqb}
 use Rattle.reads.proofs.figures.peak_of.Statement.{statement}

@@ -37,7 +37,7 @@ fit : (c : tie.In-loop Inv-loop μ-loop) →
     record {
       low : l .category < categoriesOf S;
       whole : l .category * periodsOf S + periodsOf S ≤ rowLength S;
-      most : rowLength S ≤ 6144;
+      bounded : rowLength S ≤ 6144;
       long : length (l .row) ≡ rowLength S;
     }
 fit c =
@@ -47,7 +47,7 @@ fit c =
     record {
       low = low;
       whole = stretch S (l .category) low;
-      most = row-bounds S (ready S (start c .pre .0 .0)) .1;
+      bounded = row-bounds S (ready S (start c .pre .0 .0)) .1;
       long = l .inv .3 ∙ start c .pre .1 .1 .2;
     }
 
@@ -115,7 +115,7 @@ add-moved c =
     let S = start (k .before) .args .settings .now in
     let before : l .moved ≤ l .category * periodsOf S = few _ _ _ _ (l .inv .5) in
     let more : c .before .before .write-category .result ≤ periodsOf S = few _ _ _ _ (c .before .before .write-category .ensures .1) in
-    omega (arith, f .whole, f .most)
+    omega (arith, f .whole, f .bounded)
 
 add-category : tie.Need-add-category Inv-loop μ-loop
 add-category c =

@@ -1,4 +1,4 @@
--- `store::access::byte_at` meets its contract: an element of a slice of bytes is below 256. Assumes nothing.
+-- `store::access::byte_at` meets its contract: an element of a slice of bytes is below 256.
 use borrow.Author.Needs.{needs}
 use native.Mathlib.Omega.{arith}
 use mathlib.Core.Path.{refl}

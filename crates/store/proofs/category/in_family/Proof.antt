@@ -3,7 +3,7 @@ use borrow.Author.Needs.{needs}
 use mathlib.Core.Path.{refl}
 use Rattle.ledger.specs.Method.{categoryAt, isSmart, sameFamily}
 use Rattle.ledger.specs.Store.{categoryOf}
-use Rattle.metering.specs.Laws.{failed, passed}
+use Rattle.metering.specs.Laws.{test-failed, test-passed}
 use Rattle.store.proofs.Laws.{agree, differ}
 use Rattle.store.proofs.category.in_family.Statement.{statement}
 use Rattle.store.proofs.category.in_family.Tie as tie
@@ -13,7 +13,7 @@ is-smart-requires c κs = search needs
 
 returns : tie.Need-returns
 unfolding sameFamily isSmart categoryOf categoryAt
-returns c = rw (failed (c .before .is-smart .ensures) (c .if1 .taken))
+returns c = rw (test-failed (c .before .is-smart .ensures) (c .if1 .taken))
 
 is-smart-requires-2 : tie.Need-is-smart-requires-2
 is-smart-requires-2 c κs = search needs
@@ -22,7 +22,7 @@ returns-2 : tie.Need-returns-2
 unfolding sameFamily isSmart categoryOf categoryAt
 returns-2 c =
     let c1 = c .before .before in
-    rw (passed (c1 .before .is-smart .ensures) (c1 .if1 .left), failed (c .before .is-smart2 .ensures) (c .if2 .taken))
+    rw (test-passed (c1 .before .is-smart .ensures) (c1 .if1 .left), test-failed (c .before .is-smart2 .ensures) (c .if2 .taken))
 
 category-byte-requires : tie.Need-category-byte-requires
 category-byte-requires c κs = search needs
@@ -36,8 +36,8 @@ returns-3 c =
     let c2 = c .before .before .before in
     let c1 = c2 .before .before in
     rw (
-      passed (c1 .before .is-smart .ensures) (c1 .if1 .left),
-      passed (c2 .before .is-smart2 .ensures) (c2 .if2 .left),
+      test-passed (c1 .before .is-smart .ensures) (c1 .if1 .left),
+      test-passed (c2 .before .is-smart2 .ensures) (c2 .if2 .left),
       differ (c .before .before .category-byte .ensures .is) (c .before .category-byte2 .ensures .is) (c .if3 .taken),
     )
 
@@ -51,8 +51,8 @@ returns-4 c =
     let c2 = c3 .before .before .before in
     let c1 = c2 .before .before in
     rw (
-      passed (c1 .before .is-smart .ensures) (c1 .if1 .left),
-      passed (c2 .before .is-smart2 .ensures) (c2 .if2 .left),
+      test-passed (c1 .before .is-smart .ensures) (c1 .if1 .left),
+      test-passed (c2 .before .is-smart2 .ensures) (c2 .if2 .left),
       agree (c3 .before .before .category-byte .ensures .is) (c3 .before .category-byte2 .ensures .is) (c3 .if3 .left),
       differ refl (c .before .category-byte3 .ensures .is) (c .if4 .taken),
     )
@@ -71,8 +71,8 @@ returns-5 c =
     let c2 = c3 .before .before .before in
     let c1 = c2 .before .before in
     rw (
-      passed (c1 .before .is-smart .ensures) (c1 .if1 .left),
-      passed (c2 .before .is-smart2 .ensures) (c2 .if2 .left),
+      test-passed (c1 .before .is-smart .ensures) (c1 .if1 .left),
+      test-passed (c2 .before .is-smart2 .ensures) (c2 .if2 .left),
       agree (c3 .before .before .category-byte .ensures .is) (c3 .before .category-byte2 .ensures .is) (c3 .if3 .left),
       agree refl (c4 .before .category-byte3 .ensures .is) (c4 .if4 .left),
       c .before .category-byte4 .ensures .is,

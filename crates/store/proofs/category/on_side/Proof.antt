@@ -2,7 +2,7 @@
 use Rattle.ledger.specs.Method.{categoryAt}
 use Rattle.ledger.specs.Net.{onSide}
 use Rattle.ledger.specs.Store.{categoryOf}
-use Rattle.metering.specs.Laws.{failed, passed}
+use Rattle.metering.specs.Laws.{test-failed, test-passed}
 use borrow.Author.Needs.{needs}
 use Rattle.store.proofs.category.on_side.Statement.{statement}
 use Rattle.store.proofs.category.on_side.Tie as tie
@@ -12,11 +12,11 @@ in-family-requires c κs = search needs
 
 returns : tie.Need-returns
 unfolding onSide
-returns c = rw (failed (c .before .in-family .ensures) (c .if1 .taken))
+returns c = rw (test-failed (c .before .in-family .ensures) (c .if1 .taken))
 
 returns-2 : tie.Need-returns-2
 unfolding onSide
-returns-2 c = let c1 = c .before in rw (passed (c1 .before .in-family .ensures) (c1 .if1 .left), c .if2 .taken)
+returns-2 c = let c1 = c .before in rw (test-passed (c1 .before .in-family .ensures) (c1 .if1 .left), c .if2 .taken)
 
 category-byte-requires : tie.Need-category-byte-requires
 category-byte-requires c κs = search needs
@@ -30,7 +30,7 @@ returns-3 c =
     let c2 = c .before .before in
     let c1 = c2 .before in
     rw (
-      passed (c1 .before .in-family .ensures) (c1 .if1 .left),
+      test-passed (c1 .before .in-family .ensures) (c1 .if1 .left),
       c2 .if2 .left,
       c .before .category-byte .ensures .is,
       c .category-byte2 .ensures .is,

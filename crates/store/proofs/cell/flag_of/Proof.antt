@@ -1,4 +1,4 @@
--- `store::cell::flag_of` meets its contract, number by number. Assumes nothing.
+-- `store::cell::flag_of` meets its contract, number by number.
 use borrow.Author.Tests.{eq-eqb, ne-eqb}
 use Rattle.store.proofs.cell.flag_of.Statement.{statement}
 use Rattle.store.proofs.cell.flag_of.Tie as tie

@@ -4,7 +4,7 @@ use native.Mathlib.Numerals.{add-one, add-two, add-three, add-four}
 use native.Mathlib.Omega.{arith}
 use Rattle.ledger.specs.Sizes.{metersLength}
 use Rattle.ledger.specs.Store.{putRegistration}
-use Rattle.store.specs.Bounds.{registration-index-below}
+use Rattle.store.proofs.Bounds.{registration-index-below}
 use Rattle.store.proofs.meters.put_registration.Statement.{statement}
 use Rattle.store.proofs.meters.put_registration.Tie as tie
 

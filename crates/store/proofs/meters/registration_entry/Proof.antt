@@ -1,7 +1,7 @@
 -- `registration_entry` meets its contract: every entry of a registration is in the part.
 use borrow.Author.Needs.{needs}
 use native.Mathlib.Omega.{arith}
-use Rattle.store.specs.Bounds.{registration-index-below}
+use Rattle.store.proofs.Bounds.{registration-index-below}
 use Rattle.store.proofs.meters.registration_entry.Statement.{statement}
 use Rattle.store.proofs.meters.registration_entry.Tie as tie
 

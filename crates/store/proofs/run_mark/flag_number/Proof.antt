@@ -1,4 +1,4 @@
--- `store::run_mark::flag_number` meets its contract. Assumes nothing.
+-- `store::run_mark::flag_number` meets its contract.
 use mathlib.Core.Path.{refl}
 use Rattle.ledger.specs.Store.{flagNumberOf}
 use Rattle.store.proofs.run_mark.flag_number.Statement.{statement}

@@ -1,4 +1,4 @@
--- `store::run_mark::is_run` meets its contract. Assumes nothing.
+-- `store::run_mark::is_run` meets its contract.
 use borrow.Author.Needs.{needs}
 use Rattle.ledger.specs.Store.{isRunAt}
 use Rattle.store.proofs.run_mark.is_run.Statement.{statement}

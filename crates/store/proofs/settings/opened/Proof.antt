@@ -4,7 +4,7 @@ use mathlib.Core.Path.{_∙_, ap}
 use Rattle.metering.specs.Range.{metersInRange, categoriesInRange, datesInRange}
 use Rattle.metering.specs.Calendar.{durationKnown}
 use Rattle.ledger.specs.Store.{isOpened}
-use Rattle.metering.specs.Laws.{failed, passed}
+use Rattle.metering.specs.Laws.{test-failed, test-passed}
 use Rattle.store.proofs.settings.opened.Statement.{statement}
 use Rattle.store.proofs.settings.opened.Tie as tie
 
@@ -16,7 +16,7 @@ duration-known-requires c κs = search needs
 
 returns : tie.Need-returns
 unfolding isOpened
-returns c = rw (failed (c .before .duration-known .ensures ∙ ap durationKnown (c .before .before .duration .ensures)) (c .if1 .taken))
+returns c = rw (test-failed (c .before .duration-known .ensures ∙ ap durationKnown (c .before .before .duration .ensures)) (c .if1 .taken))
 
 meter-count-requires : tie.Need-meter-count-requires
 meter-count-requires c κs = search needs
@@ -29,8 +29,8 @@ unfolding isOpened
 returns-2 c =
     let c1 = c .before .before .before in
     rw (
-      passed (c1 .before .duration-known .ensures ∙ ap durationKnown (c1 .before .before .duration .ensures)) (c1 .if1 .left),
-      failed (c .before .meters-in-range .ensures ∙ ap metersInRange (c .before .before .meter-count .ensures)) (c .if2 .taken),
+      test-passed (c1 .before .duration-known .ensures ∙ ap durationKnown (c1 .before .before .duration .ensures)) (c1 .if1 .left),
+      test-failed (c .before .meters-in-range .ensures ∙ ap metersInRange (c .before .before .meter-count .ensures)) (c .if2 .taken),
     )
 
 category-count-requires : tie.Need-category-count-requires
@@ -45,9 +45,9 @@ returns-3 c =
     let c2 = c .before .before .before in
     let c1 = c2 .before .before .before in
     rw (
-      passed (c1 .before .duration-known .ensures ∙ ap durationKnown (c1 .before .before .duration .ensures)) (c1 .if1 .left),
-      passed (c2 .before .meters-in-range .ensures ∙ ap metersInRange (c2 .before .before .meter-count .ensures)) (c2 .if2 .left),
-      failed (c .before .categories-in-range .ensures ∙ ap categoriesInRange (c .before .before .category-count .ensures)) (c .if3 .taken),
+      test-passed (c1 .before .duration-known .ensures ∙ ap durationKnown (c1 .before .before .duration .ensures)) (c1 .if1 .left),
+      test-passed (c2 .before .meters-in-range .ensures ∙ ap metersInRange (c2 .before .before .meter-count .ensures)) (c2 .if2 .left),
+      test-failed (c .before .categories-in-range .ensures ∙ ap categoriesInRange (c .before .before .category-count .ensures)) (c .if3 .taken),
     )
 
 date-count-requires : tie.Need-date-count-requires
@@ -63,9 +63,9 @@ returns-4 c =
     let c2 = c3 .before .before .before in
     let c1 = c2 .before .before .before in
     rw (
-      passed (c1 .before .duration-known .ensures ∙ ap durationKnown (c1 .before .before .duration .ensures)) (c1 .if1 .left),
-      passed (c2 .before .meters-in-range .ensures ∙ ap metersInRange (c2 .before .before .meter-count .ensures)) (c2 .if2 .left),
-      passed (c3 .before .categories-in-range .ensures ∙ ap categoriesInRange (c3 .before .before .category-count .ensures)) (c3 .if3 .left),
+      test-passed (c1 .before .duration-known .ensures ∙ ap durationKnown (c1 .before .before .duration .ensures)) (c1 .if1 .left),
+      test-passed (c2 .before .meters-in-range .ensures ∙ ap metersInRange (c2 .before .before .meter-count .ensures)) (c2 .if2 .left),
+      test-passed (c3 .before .categories-in-range .ensures ∙ ap categoriesInRange (c3 .before .before .category-count .ensures)) (c3 .if3 .left),
     ) (c .dates-in-range .ensures ∙ ap datesInRange (c .before .date-count .ensures))
 
 pub opened-spec : {M : Type 1} → statement M

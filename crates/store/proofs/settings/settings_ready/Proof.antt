@@ -3,7 +3,7 @@ use borrow.Author.Needs.{needs}
 use native.Mathlib.Omega.{arith}
 use mathlib.Core.Path.{sym}
 use Rattle.ledger.specs.Store.{settingsReady}
-use Rattle.metering.specs.Laws.{failed, passed}
+use Rattle.metering.specs.Laws.{test-failed, test-passed}
 use Rattle.store.proofs.Laws.{opened-bounds, short-unready}
 use Rattle.store.proofs.settings.settings_ready.Statement.{statement}
 use Rattle.store.proofs.settings.settings_ready.Tie as tie
@@ -16,7 +16,7 @@ opened-requires c κs = search needs
 
 returns-2 : tie.Need-returns-2
 unfolding settingsReady
-returns-2 c = rw (failed (c .before .opened .ensures) (c .if2 .taken))
+returns-2 c = rw (test-failed (c .before .opened .ensures) (c .if2 .taken))
 
 category-count-requires : tie.Need-category-count-requires
 category-count-requires c κs = search needs
@@ -25,13 +25,13 @@ date-count-requires : tie.Need-date-count-requires
 date-count-requires c κs = search needs
 
 settings-length-requires : tie.Need-settings-length-requires
-settings-length-requires c κs = let b = opened-bounds _ (passed (c .before .before .before .opened .ensures) (c .before .before .if2 .left)) in omega arith
+settings-length-requires c κs = let b = opened-bounds _ (test-passed (c .before .before .before .opened .ensures) (c .before .before .if2 .left)) in omega arith
 
 returns-3 : tie.Need-returns-3
 unfolding settingsReady
 returns-3 c =
     rw (
-      passed (c .before .before .before .before .opened .ensures) (c .before .before .before .if2 .left),
+      test-passed (c .before .before .before .before .opened .ensures) (c .before .before .before .if2 .left),
       c .settings-length .ensures,
       c .before .date-count .ensures,
       c .before .before .category-count .ensures,

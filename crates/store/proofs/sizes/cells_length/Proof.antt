@@ -1,5 +1,6 @@
+-- `cells_length` meets its contract: the product of the largest sizes fits.
 use Prim.Native.Nat.{_*_}
--- `sizes::cells_length` meets its contract: the products are far below 2 ^ 64. Assumes nothing.
+-- `sizes::cells_length` meets its contract: the products are far below 2 ^ 64.
 use mathlib.Core.Path.{refl}
 use native.Mathlib.Omega.{arith}
 use native.Mathlib.Nat.{mul-le-mul}

@@ -1,4 +1,4 @@
--- `sizes::meters_length` meets its contract. Assumes nothing.
+-- `sizes::meters_length` meets its contract.
 use mathlib.Core.Path.{refl}
 use Rattle.ledger.specs.Sizes.{metersLength}
 use borrow.Author.Needs.{needs}

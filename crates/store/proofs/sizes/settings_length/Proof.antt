@@ -1,4 +1,4 @@
--- `sizes::settings_length` meets its contract. Assumes nothing.
+-- `sizes::settings_length` meets its contract.
 use mathlib.Core.Path.{refl}
 use Rattle.ledger.specs.Sizes.{settingsLength}
 use borrow.Author.Needs.{needs}

@@ -1,4 +1,4 @@
--- `run::run_date` meets its contract: the rows made for the run are long enough for any store, and empty.
+-- `run::run_accepted` meets its contract: the rows made for the run are long enough for any store, and empty.
 use Prim.Native.Nat.{ℕ}
 use mathlib.Core.Path.{_≡_, refl, _∙_}
 use borrow.Author.Needs.{needs}
@@ -8,8 +8,8 @@ use native.Mathlib.Nat.{le-trans}
 use Rattle.ledger.specs.Method.{blank}
 use Rattle.ledger.specs.Store.{entryOf}
 use Rattle.run_date.proofs.Laws.{row-bounds}
-use Rattle.run.proofs.run_date.Statement.{statement}
-use Rattle.run.proofs.run_date.Tie as tie
+use Rattle.run.proofs.run_accepted.Statement.{statement}
+use Rattle.run.proofs.run_accepted.Tie as tie
 
 blank-is : _≡_ {A = ℕ} 4294901764 (entryOf blank)
 unfolding entryOf blank
@@ -42,8 +42,8 @@ same-length c = search needs
 returns : tie.Need-returns
 returns c = search needs
 
-pub run-date-spec : {M : Type 1} → statement M
-run-date-spec =
+pub run-accepted-spec : {M : Type 1} → statement M
+run-accepted-spec =
     tie.close
     (tie.spec
     slice-aggregate-run-with
