@@ -163,11 +163,11 @@ cellFrom-small d (own v n) b h s t = record { value = s .0; count = s .1; origin
 cellFrom-small d (pooled v n) b h s t = record { value = s .0; count = s .1; origin = h }
 
 -- the date's row: its own shape, or what it takes over
-pub row-entry : (d : ℕ) (f : Fresh) (b : Cell) (over : ℕ) → over ≡ entryOf (carried b) → rowEntry d f over ≡ entryOf (cellFrom d f b)
+pub row-entry : (d : ℕ) (f : Fresh) (b : Cell) (inherited : ℕ) → inherited ≡ entryOf (carried b) → rowEntry d f inherited ≡ entryOf (cellFrom d f b)
 unfolding cellFrom
-row-entry d absent b over e = e
-row-entry d (own v n) b over e = refl
-row-entry d (pooled v n) b over e = refl
+row-entry d absent b inherited e = e
+row-entry d (own v n) b inherited e = refl
+row-entry d (pooled v n) b inherited e = refl
 
 -- an entry is a date's own where its cell is
 own-entry : (a : Cell) → Small a → isOwn (entryOf a) ≡ isOwnCell a
