@@ -1,15 +1,15 @@
 -- A cell's entry: read what was put, tell two apart, carry forward. The encoding shows in the laws of the two leaves alone; all else goes through them.
-use Prim.Native.Nat.{ℕ, _/_, _%_, _≤_, _<_}
-use mathlib.Core.Path.{_≡_, refl, sym, ap, _∙_}
+use Prim.Native.Nat.{ℕ, _+_, _*_, _/_, _%_, _≤_, _<_}
+use mathlib.Core.Path.{_≡_, refl, sym, ap, ap₂, _∙_}
 use mathlib.Core.Logic.{_≢_}
-use mathlib.Core.Bool.{true, false, cond}
+use mathlib.Core.Bool.{true, false, true≢false, cond}
 use native.Mathlib.Omega.{arith}
 use lib.Dec.{eqb}
 use borrow.Table.Steps.{cases}
-use borrow.Author.Tests.{eq-eqb, eqb-true, eqb-false}
+use borrow.Author.Tests.{eq-eqb, ne-eqb, eqb-true, eqb-false}
 use Rattle.ledger.specs.Method.{Flag, A, D, E, N, flagNumber, Cell, blank, ownCell, pooledCell, isOwnCell, carried, sameCell, movedCell, Fresh, absent, own, pooled, cellFrom}
 use Rattle.ledger.specs.Store.{entryOf, flagOf, flagNumberOf, cellOfEntry}
-use Rattle.ledger.specs.Calls.{carriedEntry, isOwn, rowEntry}
+use Rattle.ledger.specs.Calls.{carriedEntry, isOwn, rowEntry, movedEntry}
 use Rattle.ledger.specs.Ready.{both}
 
 -- ---- the two leaves: read and put
@@ -106,12 +106,41 @@ same-equal a b h =
     }
 
 -- what tells two entries apart tells their cells apart
-pub moved-entry : (a b : Cell) → Small a → Small b → cond (eqb (entryOf a) (entryOf b)) 0 1 ≡ movedCell a b
-unfolding movedCell
+pub moved-entry : (a b : Cell) → Small a → Small b → movedEntry (entryOf a) (entryOf b) ≡ movedCell a b
+unfolding movedEntry movedCell
 moved-entry a b s t =
     cases (eqb (entryOf a) (entryOf b))
     (λ e. rw e (rw (entry-same a b s t (eqb-true _ _ e), sameCell-refl b)))
     (λ e. rw e (cases (sameCell a b) (λ q. absurd (eqb-false _ _ e (ap entryOf (same-equal a b q)))) (λ q. rw q)))
+
+-- the flag number and the fields of the cell are all that an entry has
+entry-parts : (e : ℕ) → e ≡ e % 8 + 8 * (e / 8 % 8192) + 65536 * (e / 65536 % 65536) + 4294967296 * (e / 4294967296)
+entry-parts e = omega arith
+
+entry-told : (d e : ℕ) → flagNumberOf d ≡ flagNumberOf e → sameCell (cellOfEntry d) (cellOfEntry e) ≡ true → d ≡ e
+unfolding flagNumberOf cellOfEntry
+entry-told d e flags same =
+    let equal = same-equal (cellOfEntry d) (cellOfEntry e) same in
+    let value : d / 4294967296 ≡ e / 4294967296 = ap (λ (a : Cell). a .value) equal in
+    let count : d / 8 % 8192 ≡ e / 8 % 8192 = ap (λ (a : Cell). a .count) equal in
+    let origin : d / 65536 % 65536 ≡ e / 65536 % 65536 = ap (λ (a : Cell). a .origin) equal in
+    entry-parts d
+    ∙ ap₂ (λ (x y : ℕ). x + 8 * y + 65536 * (d / 65536 % 65536) + 4294967296 * (d / 4294967296)) flags count
+    ∙ ap₂ (λ (x y : ℕ). e % 8 + 8 * (e / 8 % 8192) + 65536 * x + 4294967296 * y) origin value
+    ∙ sym (entry-parts e)
+
+-- whether an entry moved, by its flag number and its cell
+module _ (d e : ℕ) where
+  pub moved-flag : (flagNumberOf d ≡ flagNumberOf e → ⊥) → movedEntry d e ≡ 1
+  unfolding movedEntry
+  moved-flag other = rw (ne-eqb d e (λ is. other (ap flagNumberOf is)))
+
+  pub moved-by-cell : flagNumberOf d ≡ flagNumberOf e → movedEntry d e ≡ movedCell (cellOfEntry d) (cellOfEntry e)
+  unfolding movedEntry movedCell
+  moved-by-cell flags =
+      cases (sameCell (cellOfEntry d) (cellOfEntry e))
+      (λ q. rw (q, eq-eqb d e (entry-told d e flags q)))
+      (λ q. rw (q, ne-eqb d e (λ is. absurd (true≢false (sym (sameCell-refl (cellOfEntry d)) ∙ rw (sym is) at q)))))
 
 pub unmoved : (a b : Cell) → Small a → Small b → movedCell a b ≡ 0 → a ≡ b
 unfolding movedCell

@@ -14,7 +14,7 @@ use borrow.Table.Steps.{cases}
 use borrow.Author.Tests.{leb-true, leb-false}
 use Rattle.ledger.specs.Table.{tabulate}
 use Rattle.ledger.specs.Store.{datesOf, rowLength, dayTypeOf, isRunAt}
-use Rattle.ledger.specs.Calls.{carriedEntry, rowAt, putRow, leaveRow, Placing, follows, comparedEntry, differing, followRow, inheritedAfter, movedInRow, carryOn, movedByRow, settled, newRow, ranFrom, movedFrom}
+use Rattle.ledger.specs.Calls.{carriedEntry, rowAt, putRow, leaveRow, Placing, follows, comparedEntry, differing, followRow, inheritedAfter, movedInRow, carryOn, movedByRow, settled, newRow, ranFrom, movedFrom, movedEntry}
 use Rattle.ledger.proofs.Lists.{getD-sets-below, getD-sets-above, getD-sets-at, length-tabulate, tabulate-ext, sumBelow-cong}
 
 -- ---- a row put in place
@@ -127,7 +127,7 @@ module _ (place : Placing) (s : List ℕ) where
   settled-same f g cells date same =
       rw (
         tabulate-ext (rowLength s) f g same,
-        sumBelow-cong (rowLength s) (λ k. cond (eqb (comparedEntry (rowAt (rowLength s) cells date k)) (f k)) 0 1) (λ k. cond (eqb (comparedEntry (rowAt (rowLength s) cells date k)) (g k)) 0 1) (λ k l. rw (same k l)),
+        sumBelow-cong (rowLength s) (λ k. movedEntry (comparedEntry (rowAt (rowLength s) cells date k)) (f k)) (λ k. movedEntry (comparedEntry (rowAt (rowLength s) cells date k)) (g k)) (λ k l. rw (same k l)),
       )
       (carryOn-same (dayTypeOf s date) (datesOf s - suc date) _ _ (suc date) _ _ (λ k l. ap carriedEntry (same k l)))
 

@@ -4,6 +4,7 @@ use mathlib.Core.Path.{_≡_}
 use mathlib.Core.Bool.{Bool, true, _&&_, and-eq-true-iff}
 use mathlib.Core.List.{List}
 use mathlib.Core.Logic.{_⊎_, inl, inr, ⊎-elim}
+use native.Mathlib.Nat.{mul-le-mul-left, mul-le-mul-right}
 use native.Mathlib.Omega.{arith}
 use lib.Dec.{leb}
 use lib.ListN.{length}
@@ -12,7 +13,7 @@ use Rattle.metering.specs.Range.{between, metersInRange, categoriesInRange, dat
 use Rattle.metering.specs.Calendar.{periodsPerDay}
 use Rattle.metering.specs.Laws.{duration-is}
 use Rattle.ledger.specs.Sizes.{headerLength, settingsLength}
-use Rattle.ledger.specs.Store.{durationOf, metersOf, categoriesOf, datesOf, periodsOf, isOpened, settingsReady}
+use Rattle.ledger.specs.Store.{durationOf, metersOf, categoriesOf, datesOf, periodsOf, rowLength, isOpened, settingsReady}
 
 pub both : (a b : Bool) → (a && b) ≡ true → (a ≡ true) × (b ≡ true)
 both a b h = and-eq-true-iff a b .0 h
@@ -50,3 +51,16 @@ periods-are s k = ⊎-elim (λ e. inl (rw e)) (λ e. inr (rw e)) (k .duration)
 
 pub periods-bound : (s : List ℕ) → Ready s → (48 ≤ periodsOf s) × (periodsOf s ≤ 96)
 periods-bound s k = ⊎-elim (λ e. omega arith) (λ e. omega arith) (periods-are s k)
+
+-- the header is there to read
+pub header-there : (s : List ℕ) → settingsReady s ≡ true → headerLength ≤ length s
+header-there s h = let k = ready s h in omega arith
+
+-- a row has a category at least, and at most 64 of 96 periods
+pub row-bounds : (s : List ℕ) → Ready s → (periodsOf s ≤ rowLength s) × (rowLength s ≤ 6144)
+unfolding rowLength
+row-bounds s k =
+    let p = periods-bound s k in (
+      omega (arith, mul-le-mul-right (periodsOf s) (k .categories .0)),
+      omega (arith, mul-le-mul-right (periodsOf s) (k .categories .1), mul-le-mul-left 64 (p .1)),
+    )

@@ -8,7 +8,7 @@ use native.Mathlib.Omega.{arith}
 use lib.ListN.{getD}
 use lib.Dec.{eqb, leb, leb·zero}
 use borrow.Table.Steps.{cases}
-use borrow.Author.Tests.{leb-true, le-leb, lt-leb, eqb-true, not-true, not-false}
+use borrow.Author.Tests.{leb-true, le-leb, lt-leb, eqb-true, eq-eqb, ne-eqb, not-true, not-false}
 use Rattle.metering.specs.Average.{average, annual}
 use Rattle.metering.specs.Calendar.{durationKnown, periodsPerDay, periodEnding, liesWithin, windowStart, windowEnd}
 use Rattle.metering.specs.Sum.{sumBelow, sumBelow-le}
@@ -22,6 +22,14 @@ test-failed e t = sym e ∙ not-true _ t
 
 pub test-passed : {r x : Bool} → r ≡ x → not r ≡ false → x ≡ true
 test-passed e t = sym e ∙ not-false _ t
+
+-- what two calls answered, and the test whether they agree
+
+pub agree : {a b x y : ℕ} → a ≡ x → b ≡ y → a ≡ b → eqb x y ≡ true
+agree p q e = eq-eqb _ _ (sym p ∙ e ∙ q)
+
+pub differ : {a b x y : ℕ} → a ≡ x → b ≡ y → (a ≡ b → ⊥) → eqb x y ≡ false
+differ p q n = ne-eqb _ _ (λ e. n (p ∙ e ∙ sym q))
 
 pub both-leb : (a b c d : ℕ) → (leb a b && leb c d ≡ true) ↔ ((a ≤ b) × (c ≤ d))
 both-leb a b c d = (

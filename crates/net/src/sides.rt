@@ -1,6 +1,6 @@
 // The categories on one side of a net, found once, before any cell is read.
-use store::category::on_side;
-use store::settings::category_count;
+use settings::category::on_side;
+use settings::header::category_count;
 ghost use mathlib.Core.Path.{_≡_};
 ghost use mathlib.Core.Bool.{true, cond};
 ghost use mathlib.Core.List.{[], _∷_, _++_};

@@ -1,14 +1,14 @@
 // The sizes of an opening, and how long its parts have to be.
 use metering::calendar;
 use metering::range;
-use store::settings::OpeningTerms;
-use store::sizes::cells_length;
-use store::sizes::meters_length;
-use store::sizes::readings_length;
-use store::sizes::settings_length;
+use settings::sizes::cells_length;
+use settings::sizes::meters_length;
+use settings::sizes::readings_length;
+use settings::sizes::settings_length;
+use settings::writing::OpeningTerms;
 ghost use mathlib.Core.Path.{_≡_};
 ghost use mathlib.Core.Bool.{true};
-ghost use Rattle.store.specs.Settings.{openingCall};
+ghost use Rattle.settings.specs.Opening.{openingCall};
 ghost use Rattle.ledger.specs.Checks.{sizesValid};
 ghost use Rattle.ledger.specs.Ledger.{leastLengths};
 ghost use Rattle.opening.specs.Lengths.{lengthsMeant, anyBelowLeast};

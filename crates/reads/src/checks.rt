@@ -1,11 +1,11 @@
 // The checks of both reads, each as the number of its refusal: 0 says that it passed.
 use metering::range::between;
+use settings::header::category_count;
+use settings::header::date_count;
+use settings::header::period_count;
 use store::column::column_of;
 use store::column::ran_on;
 use store::lent::cells_unready;
-use store::settings::category_count;
-use store::settings::date_count;
-use store::settings::period_count;
 ghost use mathlib.Core.Path.{_≡_};
 ghost use mathlib.Core.Bool.{true, not, cond};
 ghost use Prim.Native.Nat.{_<_};

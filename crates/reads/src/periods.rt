@@ -1,14 +1,14 @@
 // The walk over a date's cells, and the day's figures by it.
+use entries::cell::Flag;
 use metering::calendar::window_end;
 use metering::calendar::window_start;
-use store::cell::Flag;
 use store::column::Column;
 use store::column::cell_at;
 ghost use mathlib.Core.Path.{_≡_};
 ghost use mathlib.Core.Logic.{_⊎_};
 ghost use Prim.Native.Nat.{_+_, _≤_};
 ghost use Rattle.ledger.specs.Method.{isFresh, isBlank};
-ghost use Rattle.store.specs.Cell.{flagMeant};
+ghost use Rattle.entries.specs.Cell.{flagMeant};
 ghost use Rattle.store.specs.Column.{Reaches};
 ghost use Rattle.reads.specs.Sums.{Figure};
 ghost use Rattle.reads.specs.Figures.{OffPeak, Walked, DayFigured};

@@ -1,5 +1,9 @@
 // Registration: the checks in pieces, each a number (0 says that all passed), then one more registration in the meter's slot.
 use metering::range::between;
+use settings::header::category_count;
+use settings::header::date_count;
+use settings::header::meter_count;
+use settings::header::period_count;
 use store::meter_call::call_number;
 use store::meters::has_mpan;
 use store::meters::put_registration;
@@ -8,10 +12,6 @@ use store::meters::start_not_after_last;
 use store::meters::used_count;
 use store::outcome::Outcome;
 use store::readings::held_from;
-use store::settings::category_count;
-use store::settings::date_count;
-use store::settings::meter_count;
-use store::settings::period_count;
 ghost use mathlib.Core.Path.{_≡_};
 ghost use mathlib.Core.Bool.{false, cond, _&&_};
 ghost use Prim.Native.Nat.{_<_, _≤_};

@@ -1,2 +1,2 @@
 -- Laws that the run's proofs share.
-pub mod Laws
+mod Laws

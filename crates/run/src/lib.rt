@@ -1,21 +1,18 @@
 // The run of a date: its shapes from the readings held, and what later dates take over from them.
-pub mod count;
-mod later;
 mod own_row;
-mod predecessor;
 
-use crate::later::write_later;
 use crate::own_row::write_date;
-use crate::predecessor::inherit;
+use entries::entry::BLANK_ENTRY;
+use later_dates::predecessor::inherit;
+use later_dates::write::write_later;
+use later_rows::carry_row;
 use run_date::sums::tally_date;
-use run_rows::later::carry_row;
-use store::category::day_type;
-use store::entry::BLANK_ENTRY;
+use settings::category::day_type;
+use settings::header::date_count;
 use store::lent::run_unready;
 use store::outcome::RunOutcome;
 use store::rows::row_length;
 use store::rows::row_start;
-use store::settings::date_count;
 ghost use mathlib.Core.Path.{_≡_};
 ghost use mathlib.Core.Bool.{true};
 ghost use Prim.Native.Nat.{ℕ, _<_, _≤_};
@@ -55,8 +52,13 @@ fn settle(
     ensures { λ r. ⌜ r ≡ (settled putRow (now (settings .entry)) (rowFrom (now (settings .entry)) (now (sums .entry)) (now (counts .entry)) (now (inherited .entry)) date) (now (cells .entry)) date) .moved ⌝ }
 {
     let moved = write_date(settings, sums, counts, &inherited[..], cells, date);
-    let row = row_length(settings);
-    carry_row(&cells[..], row_start(row, date), row as usize, inherited);
+    let length = row_length(settings);
+    carry_row(
+        &cells[..],
+        row_start(length, date),
+        length as usize,
+        inherited,
+    );
     write_later(
         settings,
         cells,

@@ -25,8 +25,8 @@ pub fn write_date(
     ensures { λ r. ⌜ now (cells .exit) ≡ putRow (rowLength (now (settings .entry))) date (tabulate (rowLength (now (settings .entry))) (rowFrom (now (settings .entry)) (now (sums .entry)) (now (counts .entry)) (now (inherited .entry)) date)) (now (cells .entry)) ⌝ }
     ensures { λ r. ⌜ r ≡ movedByRow (rowLength (now (settings .entry))) (now (cells .entry)) date (rowFrom (now (settings .entry)) (now (sums .entry)) (now (counts .entry)) (now (inherited .entry)) date) ⌝ }
 {
-    let row = row_length(settings);
-    let at = row_start(row, date);
-    let end = at + row as usize;
+    let length = row_length(settings);
+    let at = row_start(length, date);
+    let end = at + length as usize;
     write_row(settings, sums, counts, inherited, date, &mut cells[at..end])
 }

@@ -1,12 +1,12 @@
 // The date's own row, category by category.
 use run_rows::shape::shape_row;
 use run_rows::sums::add_row;
-use store::category::de_minimis;
-use store::category::is_smart;
-use store::category::same_family;
+use settings::category::de_minimis;
+use settings::category::is_smart;
+use settings::category::same_family;
+use settings::header::category_count;
+use settings::header::period_count;
 use store::rows::category_start;
-use store::settings::category_count;
-use store::settings::period_count;
 ghost use mathlib.Core.Path.{_≡_};
 ghost use mathlib.Core.Bool.{true};
 ghost use Prim.Native.Nat.{_+_, _<_, _≤_};

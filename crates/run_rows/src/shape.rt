@@ -1,9 +1,8 @@
 // A category's row of the date that is run.
-use crate::moved::difference;
+use entries::cell::Cell;
+use entries::cell::entry_of;
+use entries::entry;
 use metering::average::average_up;
-use store::cell::Cell;
-use store::cell::entry_of;
-use store::entry;
 ghost use mathlib.Core.Path.{_≡_};
 ghost use Prim.Native.Nat.{ℕ, _+_, _<_, _≤_};
 ghost use lib.ListN.{length, getD};
@@ -82,7 +81,7 @@ pub fn shape_row(
             family_counts[p],
             inherited[k],
         );
-        moved += difference(entry::compared_entry(old), new);
+        moved += entry::moved_entry(entry::compared_entry(old), new);
         row[p] = new;
         p += 1;
     }

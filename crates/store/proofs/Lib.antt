@@ -4,4 +4,3 @@ pub mod Bounds
 pub mod Laws
 pub mod LentLaws
 pub mod RowLaws
-pub mod WritingLaws

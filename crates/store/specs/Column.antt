@@ -6,9 +6,9 @@ use mathlib.Core.List.{List}
 use lib.ListN.{length, getD}
 use Rattle.ledger.specs.Method as method
 use Rattle.ledger.specs.Store.{categoriesOf, periodsOf, cellOfEntry, cellIndex, isRunAt}
-use Rattle.store.specs.declared.cell.Cell.{Cell}
+use Rattle.entries.specs.declared.cell.Cell.{Cell}
 use Rattle.store.specs.declared.column.Column.{Column}
-use Rattle.store.specs.Cell.{cellMeant}
+use Rattle.entries.specs.Cell.{cellMeant}
 
 -- what the settings say of category c
 abbrev pub columnOf : List ℕ → ℕ → Column

@@ -5,7 +5,7 @@ use lib.IntN.{ℤ}
 use lib.ListN.{take}
 use Rattle.ledger.specs.Method as method
 use Rattle.ledger.specs.Ledger.{Answer, refused, accepted, moved, totalsAre, cellIs, netIs}
-use Rattle.store.specs.Cell.{cellMeant}
+use Rattle.entries.specs.Cell.{cellMeant}
 use Rattle.store.specs.declared.outcome.Outcome.{Outcome}
 use Rattle.store.specs.declared.outcome.Outcome.the-variants as outcome
 use Rattle.store.specs.declared.outcome.RunOutcome.{RunOutcome}

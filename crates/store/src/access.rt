@@ -2,14 +2,6 @@
 ghost use mathlib.Core.Path.{_≡_};
 ghost use Prim.Native.Nat.{_<_};
 ghost use lib.ListN.{length, getD, set};
-ghost use Rattle.store.specs.Access.{Byte};
-
-pub fn byte_at(part: &[u8], i: u64) -> u64
-    requires { ⌜ i < length (now part) ⌝ }
-    ensures { λ r. ⌜ Byte (now (part .entry)) i r ⌝ }
-{
-    part[i as usize] as u64
-}
 
 pub fn entry_at(part: &[u64], i: u64) -> u64
     requires { ⌜ i < length (now part) ⌝ }

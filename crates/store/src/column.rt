@@ -1,10 +1,10 @@
 // One category's cells: where they stand in the lent part, and what they say.
 use crate::access::entry_at;
-use crate::cell::Cell;
-use crate::cell::cell_of_entry;
 use crate::run_mark::is_run;
-use crate::settings::category_count;
-use crate::settings::period_count;
+use entries::cell::Cell;
+use entries::cell::cell_of_entry;
+use settings::header::category_count;
+use settings::header::period_count;
 ghost use mathlib.Core.Path.{_≡_};
 ghost use mathlib.Core.Bool.{true};
 ghost use Prim.Native.Nat.{suc, _+_, _*_, _<_, _^_};

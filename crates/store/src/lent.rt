@@ -1,8 +1,8 @@
 // Whether the parts that a call is lent can be read: opened, and long enough.
-use crate::settings::cells_ready;
-use crate::settings::meters_ready;
-use crate::settings::readings_ready;
-use crate::settings::settings_ready;
+use settings::header::settings_ready;
+use settings::ready::cells_ready;
+use settings::ready::meters_ready;
+use settings::ready::readings_ready;
 ghost use mathlib.Core.Path.{_≡_};
 ghost use Rattle.ledger.specs.Calls.{metersUnready, runUnready, cellsUnready};
 

@@ -1,9 +1,6 @@
-// The lent parts of the store: the only code that knows how an entry is encoded.
+// The lent parts beside the settings: where each thing stands in meters, readings and cells; and what each call answers.
 pub mod access;
-pub mod category;
-pub mod cell;
 pub mod column;
-pub mod entry;
 pub mod lent;
 pub mod meter_call;
 pub mod meters;
@@ -11,6 +8,4 @@ pub mod outcome;
 pub mod readings;
 pub mod rows;
 pub mod run_mark;
-pub mod settings;
-pub mod sizes;
 pub mod writing;

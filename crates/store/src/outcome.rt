@@ -1,5 +1,5 @@
 // What each call answers. Every refusal has its number and place.
-use crate::cell::Cell;
+use entries::cell::Cell;
 
 // A call that gives nothing but acceptance: opening, registration, reception.
 pub enum Outcome {

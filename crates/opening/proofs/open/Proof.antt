@@ -7,7 +7,7 @@ use Rattle.ledger.specs.Calls.{openingVerdict}
 use Rattle.ledger.proofs.Verdicts.{accepted-none}
 use Rattle.ledger.proofs.Open.{OpeningAccepted, opening-accepted}
 use Rattle.store.specs.Outcome.{answerOf}
-use Rattle.store.specs.Settings.{openingCall}
+use Rattle.settings.specs.Opening.{openingCall}
 use Rattle.opening.specs.Lengths.{lengthsMeant}
 use Rattle.opening.proofs.Laws.{opening-refused, opening-done, verdict-of}
 use borrow.Author.Needs.{needs}

@@ -7,7 +7,7 @@ use Rattle.ledger.specs.Opening.{Opening, categories, dates}
 use Rattle.ledger.specs.Checks.{firstFailed, categoryNumber, dayTypeNumber, sizesValid}
 use Rattle.ledger.specs.Ledger.{anyShort, answer, accepted}
 use Rattle.store.specs.Outcome.{answerOf}
-use Rattle.store.specs.Settings.{openingCall}
+use Rattle.settings.specs.Opening.{openingCall}
 use Rattle.opening.specs.Lengths.{lengthsMeant, anyBelowLeast}
 use Rattle.opening.proofs.Laws.{sizes-refused, category-refused, day-type-refused, short-is, short-refused, opening-accepted}
 use borrow.Author.Needs.{needs}

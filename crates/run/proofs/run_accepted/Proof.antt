@@ -3,11 +3,10 @@ use Prim.Native.Nat.{ℕ}
 use mathlib.Core.Path.{_≡_, refl, _∙_}
 use borrow.Author.Needs.{needs}
 use lib.ListN.{getD-replicate}
-use Rattle.ledger.specs.Ready.{ready}
+use Rattle.ledger.specs.Ready.{ready, row-bounds}
 use native.Mathlib.Nat.{le-trans}
 use Rattle.ledger.specs.Method.{blank}
 use Rattle.ledger.specs.Store.{entryOf}
-use Rattle.run_date.proofs.Laws.{row-bounds}
 use Rattle.run.proofs.run_accepted.Statement.{statement}
 use Rattle.run.proofs.run_accepted.Tie as tie
 

@@ -3,9 +3,9 @@ use mathlib.Core.Path.{_≡_, sym, _∙_}
 use mathlib.Core.Bool.{false}
 use borrow.Author.Needs.{needs}
 use borrow.Author.Tests.{le-leb, lt-leb}
+use Rattle.ledger.specs.Ready.{header-there}
 use Rattle.ledger.specs.Checks.{runCheck}
 use Rattle.ledger.specs.Calls.{runUnready, runVerdict}
-use Rattle.run_date.proofs.Laws.{eight}
 use Rattle.run.proofs.Laws.{parts-ready}
 use Rattle.run.proofs.run_number.Statement.{statement}
 use Rattle.run.proofs.run_number.Tie as tie
@@ -24,7 +24,7 @@ unfolding runVerdict runCheck
 returns c = rw (sym (c .before .run-unready .ensures) ∙ c .if1 .taken)
 
 date-count-requires : tie.Need-date-count-requires
-date-count-requires c κs = eight _ (parts-ready _ _ _ _ (passed c) .0)
+date-count-requires c κs = header-there _ (parts-ready _ _ _ _ (passed c) .0)
 
 returns-2 : tie.Need-returns-2
 unfolding runVerdict runCheck

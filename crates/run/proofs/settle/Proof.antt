@@ -4,12 +4,12 @@ use mathlib.Core.Path.{_≡_, refl, ap, _∙_}
 use native.Mathlib.Omega.{arith}
 use borrow.Author.Needs.{needs}
 use lib.ListN.{length}
-use Rattle.ledger.specs.Ready.{ready}
+use Rattle.ledger.specs.Ready.{ready, row-bounds}
 use Rattle.ledger.specs.Store.{rowLength, dayTypeOf}
 use Rattle.ledger.specs.Calls.{Ran}
 use Rattle.store.proofs.RowLaws.{row-fits, still-ready}
-use Rattle.run_date.proofs.Laws.{row-bounds}
-use Rattle.run.proofs.Laws.{within, wide, moved-by-le, settles}
+use Rattle.later_dates.proofs.Laws.{within, wide}
+use Rattle.run.proofs.Laws.{moved-by-le, settles}
 use Rattle.run.proofs.settle.Statement.{statement}
 use Rattle.run.proofs.settle.Tie as tie
 

@@ -6,7 +6,7 @@ use borrow.Author.Needs.{needs}
 use denote.Ref.{now}
 use lib.ListN.{getD}
 use Rattle.ledger.specs.Method.{isBlank}
-use Rattle.store.specs.Cell.{cellMeant}
+use Rattle.entries.specs.Cell.{cellMeant}
 use Rattle.store.specs.Column.{beside, cellIn}
 use Rattle.store.proofs.ColumnLaws.{beside-reaches}
 use Rattle.reads.specs.Figures.{valueAfter, blankAfter}

@@ -7,7 +7,7 @@ use Rattle.ledger.proofs.Relation.{Valid}
 use Rattle.ledger.proofs.Runs.{valid-periods}
 use Rattle.ledger.proofs.Settings.{duration-known}
 use Rattle.ledger.proofs.Open.{sizes-valid}
-use Rattle.store.specs.Settings.{openingCall}
+use Rattle.settings.specs.Opening.{openingCall}
 use Rattle.opening.proofs.sizes.least_lengths.Statement.{statement}
 use Rattle.opening.proofs.sizes.least_lengths.Tie as tie
 

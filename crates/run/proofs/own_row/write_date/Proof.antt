@@ -9,8 +9,8 @@ use Rattle.ledger.specs.Ready.{ready}
 use Rattle.ledger.specs.Store.{rowLength}
 use Rattle.ledger.specs.Calls.{putRow, rowAt, comparedEntry, movedByRow}
 use Rattle.store.proofs.RowLaws.{row-fits}
-use Rattle.run_rows.proofs.Laws.{differing-ext}
-use Rattle.run.proofs.Laws.{part-row, put-is, part-is}
+use Rattle.entries.proofs.RowLaws.{differing-ext}
+use Rattle.later_dates.proofs.Laws.{part-row, put-is, part-is}
 use Rattle.run.proofs.own_row.write_date.Statement.{statement}
 use Rattle.run.proofs.own_row.write_date.Tie as tie
 

@@ -3,10 +3,9 @@ use Prim.Native.Nat.{_-_, _≤_}
 use mathlib.Core.Path.{_≡_, refl, _∙_}
 use native.Mathlib.Omega.{arith}
 use lib.ListN.{length}
-use Rattle.ledger.specs.Ready.{ready}
+use Rattle.ledger.specs.Ready.{ready, header-there}
 use Rattle.ledger.specs.Store.{categoriesOf}
 use Rattle.run_date.specs.Sums.{Pooled}
-use Rattle.run_date.proofs.Laws.{eight}
 use Rattle.run_date.proofs.write.pool_family.Statement.{statement}
 use Rattle.run_date.proofs.write.pool_family.Tie as tie
 
@@ -20,7 +19,7 @@ abbrev μ-loop : tie.MeasureT-loop
 μ-loop settings sums counts category family-sums₀ family-counts₀ categories b₀ family-sums family-counts b = categories - b
 
 category-count-requires : tie.Need-category-count-requires Inv-loop μ-loop
-category-count-requires c κs = eight _ (c .before .before .before .before .before .pre .0 .0)
+category-count-requires c κs = header-there _ (c .before .before .before .before .before .pre .0 .0)
 
 loop-holds : tie.Need-loop-holds Inv-loop μ-loop
 loop-holds c = let s = c .before .before .before .before .before .before in (c .category-count .ensures, omega arith, refl, refl, s .pre .1 .1 .1 .1 .0, s .pre .1 .1 .1 .1 .1)

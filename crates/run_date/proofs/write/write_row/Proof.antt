@@ -3,14 +3,14 @@ use Prim.Native.Nat.{ℕ, _+_, _-_, _*_, _<_, _≤_}
 use mathlib.Core.Path.{_≡_, refl, sym, ap, _∙_}
 use native.Mathlib.Omega.{arith}
 use lib.ListN.{length, getD}
-use Rattle.ledger.specs.Ready.{ready}
+use Rattle.ledger.specs.Ready.{ready, row-bounds, header-there}
 use Rattle.ledger.specs.Store.{categoriesOf, periodsOf, rowLength}
 use Rattle.ledger.specs.Calls.{comparedEntry, differing}
 use Rattle.ledger.specs.Table.{filling}
-use Rattle.run_rows.proofs.Laws.{filled-whole, differing-le, counted}
+use Rattle.entries.proofs.RowLaws.{filled-whole, differing-le, counted}
 use Rattle.ledger.proofs.Lists.{filling-length}
 use Rattle.run_date.specs.Sums.{rowFrom}
-use Rattle.run_date.proofs.Laws.{eight, start-asks, stretch, row-bounds, part-width, next-stretch, row-start, count-start, row-step, count-step, row-end}
+use Rattle.run_date.proofs.Laws.{start-asks, stretch, part-width, next-stretch, row-start, count-start, row-step, count-step, row-end}
 use Rattle.run_date.proofs.write.write_row.Statement.{statement}
 use Rattle.run_date.proofs.write.write_row.Tie as tie
 
@@ -59,7 +59,7 @@ at-is : (c : tie.After-category-start Inv-loop μ-loop) →
 at-is c = let l = c .before .before .loop in c .category-start .ensures ∙ ap (λ (n : ℕ). l .category * n) (l .inv .1)
 
 category-count-requires : tie.Need-category-count-requires Inv-loop μ-loop
-category-count-requires c κs = eight _ (c .before .before .before .before .before .pre .0 .0)
+category-count-requires c κs = header-there _ (c .before .before .before .before .before .pre .0 .0)
 
 period-count-requires : tie.Need-period-count-requires Inv-loop μ-loop
 period-count-requires c κs = c .before .before .before .before .before .before .pre .0 .0

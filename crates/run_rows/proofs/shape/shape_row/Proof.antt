@@ -4,11 +4,10 @@ use mathlib.Core.Path.{_≡_, refl, sym, ap, ap₂, _∙_}
 use native.Mathlib.Omega.{arith}
 use borrow.Author.Needs.{needs}
 use lib.ListN.{length, getD, length-set}
-use Rattle.ledger.specs.Calls.{differing, comparedEntry}
+use Rattle.ledger.specs.Calls.{differing, comparedEntry, movedEntry}
 use Rattle.run_rows.specs.Shape.{shapeAt}
-use Rattle.run_rows.specs.Later.{differenceOf}
 use Rattle.ledger.specs.Table.{filling}
-use Rattle.run_rows.proofs.Laws.{unfilled, filled-whole, differing-zero, differing-le, differenceOf-le, count-next, counted}
+use Rattle.entries.proofs.RowLaws.{unfilled, filled-whole, differing-zero, differing-le, moved-entry-le, count-next, counted}
 use Rattle.ledger.proofs.Lists.{filling-zero, fill}
 use Rattle.run_rows.proofs.shape.shape_row.Statement.{statement}
 use Rattle.run_rows.proofs.shape.shape_row.Tie as tie
@@ -73,13 +72,13 @@ shape-entry-requires c κs =
 compared-entry-requires : tie.Need-compared-entry-requires Inv-loop μ-loop
 compared-entry-requires c κs = search needs
 
-difference-requires : tie.Need-difference-requires Inv-loop μ-loop
-difference-requires c κs = search needs
+moved-entry-requires : tie.Need-moved-entry-requires Inv-loop μ-loop
+moved-entry-requires c κs = search needs
 
 add-moved : tie.Need-add-moved Inv-loop μ-loop
 add-moved c =
     let l = c .before .before .before .before .before .before .before .before .before .before .loop in
-    let d : c .difference .result ≤ 1 = rw (c .difference .ensures) (differenceOf-le _ _) in
+    let d : c .moved-entry .result ≤ 1 = rw (c .moved-entry .ensures) (moved-entry-le _ _) in
     let m : l .moved ≤ l .p = rw (l .inv .3) (differing-le _ _ _) in
     omega arith
 
@@ -105,7 +104,7 @@ loop-again c =
       simp length-set (omega arith),
       fill _ _ (l .row) (l .p) _ (l .inv .2) (omega arith) new,
       count-next _ _ (l .p) (l .moved) _ (l .inv .3)
-          (c .difference .ensures ∙ ap₂ differenceOf (c .before .compared-entry .ensures ∙ ap comparedEntry old) new),
+          (c .moved-entry .ensures ∙ ap₂ movedEntry (c .before .compared-entry .ensures ∙ ap comparedEntry old) new),
     )
 
 same-length : tie.Need-same-length Inv-loop μ-loop
@@ -139,7 +138,7 @@ shape-row-spec =
     shared-slice-read-shape-entry-5
     shape-entry-requires
     compared-entry-requires
-    difference-requires
+    moved-entry-requires
     add-moved
     mul-row
     slice-write-row

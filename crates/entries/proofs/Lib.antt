@@ -1,0 +1,2 @@
+-- Laws of rows of entries that several crates cite.
+pub mod RowLaws

@@ -1,0 +1,2 @@
+-- Laws of rows among the cells and of the walk over later dates.
+pub mod Laws

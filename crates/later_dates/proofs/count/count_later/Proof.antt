@@ -1,0 +1,105 @@
+-- `later_dates::count::count_later` meets its contract: what is left of the walk gives what the whole gives.
+use Prim.Native.Nat.{_+_, _-_, _<_}
+use mathlib.Core.Path.{_≡_, refl, ap, _∙_}
+use native.Mathlib.Omega.{arith}
+use lib.ListN.{length}
+use Rattle.ledger.specs.Ready.{ready, header-there}
+use Rattle.ledger.specs.Store.{datesOf}
+use Rattle.ledger.specs.Calls.{leaveRow, Ran}
+use Rattle.later_dates.proofs.Laws.{Walked, walk-start, walk-end, walk-stop, walk-next, walk-room}
+use Rattle.later_dates.proofs.count.count_later.Statement.{statement}
+use Rattle.later_dates.proofs.count.count_later.Tie as tie
+
+abbrev Inv-loop : tie.InvT-loop
+Inv-loop settings cells day first moved inherited₀ dates total₀ d₀ inherited total d =
+    (dates ≡ datesOf settings) × (length inherited ≡ length inherited₀)
+    × Walked leaveRow settings day first moved inherited₀ cells inherited cells total d
+
+abbrev μ-loop : tie.MeasureT-loop
+μ-loop settings cells day first moved inherited₀ dates total₀ d₀ inherited total d = dates - d
+
+-- the turn's head, and the function's start
+abbrev head : tie.After-count-step Inv-loop μ-loop → tie.At-loop Inv-loop μ-loop
+head c = c .before .before .before
+
+abbrev start : tie.At-loop Inv-loop μ-loop → tie.Start Inv-loop μ-loop
+start c = c .before .before .before .before .before
+
+-- the walk has come to the turn's date, and steps over it
+module _ (c : tie.After-count-step Inv-loop μ-loop) where
+  in-range : head c .loop .d < datesOf (start (head c) .args .settings .now)
+  in-range = rw (← head c .loop .inv .0) (c .before .before .loop-test .taken)
+
+  room : (head c .loop .total + c .count-step .result .moved < 18446744073709551616) × (head c .loop .d + 1 < 18446744073709551616)
+  room = walk-room _ _ _ _ _ _ _ _ _ _ _ (head c .loop .inv .2) in-range (c .count-step .ensures) (ready _ (start (head c) .pre .0 .0))
+
+date-count-requires : tie.Need-date-count-requires Inv-loop μ-loop
+date-count-requires c κs = header-there _ (c .before .before .before .pre .0 .0)
+
+loop-holds : tie.Need-loop-holds Inv-loop μ-loop
+loop-holds c =
+    let s = c .before .before .before .before in
+    (c .date-count .ensures, refl, walk-start _ _ _ _ _ _ _ (s .pre .1 .0) (s .pre .1 .1))
+
+count-step-requires : tie.Need-count-step-requires Inv-loop μ-loop
+count-step-requires c κs =
+    let i = c .before in
+    let l = i .before .loop in
+    let s = start (i .before) in (
+      s .pre .0 .0,
+      s .pre .0 .1,
+      rw (← l .inv .0) (i .loop-test .taken),
+      rw (l .inv .1) (s .pre .1 .2),
+    )
+
+same-length : tie.Need-same-length Inv-loop μ-loop
+same-length c = let o = c .before .before .before in o .count-step .kept .1 .1 .1 .1 .0 ∙ head o .loop .inv .1
+
+returns : tie.Need-returns Inv-loop μ-loop
+returns c =
+    let o = c .before .before .before in
+    ap (λ (x : Ran). x .moved) (walk-stop _ _ _ _ _ _ _ _ _ _ _ (head o .loop .inv .2) (in-range o) (o .count-step .ensures) (c .if1 .taken))
+
+add-total : tie.Need-add-total Inv-loop μ-loop
+add-total c = omega (arith, room (c .before .before .before .before) .0)
+
+add-d : tie.Need-add-d Inv-loop μ-loop
+add-d c = omega (arith, room (c .before .before .before .before) .1)
+
+loop-less : tie.Need-loop-less Inv-loop μ-loop
+loop-less c = omega (arith, c .before .before .before .before .before .before .loop-test .taken)
+
+loop-again : tie.Need-loop-again Inv-loop μ-loop
+loop-again c =
+    let o = c .before .before .before .before in
+    let l = head o .loop in (
+      l .inv .0,
+      o .count-step .kept .1 .1 .1 .1 .0 ∙ l .inv .1,
+      walk-next _ _ _ _ _ _ _ _ _ _ _ (l .inv .2) (in-range o) (o .count-step .ensures) (c .before .if1 .left),
+    )
+
+same-length-2 : tie.Need-same-length-2 Inv-loop μ-loop
+same-length-2 c = c .before .loop .inv .1
+
+returns-2 : tie.Need-returns-2 Inv-loop μ-loop
+returns-2 c =
+    let l = c .before .loop in
+    ap (λ (x : Ran). x .moved) (walk-end _ _ _ _ _ _ _ _ _ _ _ (l .inv .2) (rw (← l .inv .0) (c .loop-test .left)))
+
+pub count-later-spec : {M : Type 1} → statement M
+count-later-spec =
+    tie.close
+    (tie.spec
+    Inv-loop
+    μ-loop
+    date-count-requires
+    loop-holds
+    count-step-requires
+    same-length
+    returns
+    add-total
+    add-d
+    loop-less
+    loop-again
+    same-length-2
+    returns-2)

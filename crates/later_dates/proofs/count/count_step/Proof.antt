@@ -1,0 +1,115 @@
+-- `later_dates::count::count_step` meets its contract: a date that is no predecessor is passed over, the part lent of another is its row, and is counted.
+use Prim.Native.Nat.{ℕ, _+_, _-_, _*_, _≤_}
+use mathlib.Core.Path.{_≡_, sym, ap, _∙_}
+use native.Mathlib.Omega.{arith}
+use borrow.Author.Needs.{needs}
+use borrow.Author.Tests.{not-true, not-false}
+use lib.ListN.{length}
+use Rattle.ledger.specs.Ready.{ready, row-bounds}
+use Rattle.ledger.specs.Store.{rowLength}
+use Rattle.ledger.specs.Calls.{leaveRow}
+use Rattle.store.proofs.RowLaws.{row-fits}
+use Rattle.later_dates.proofs.Laws.{part-is, step-skip, stepped-as, step-counted}
+use Rattle.later_dates.proofs.count.count_step.Statement.{statement}
+use Rattle.later_dates.proofs.count.count_step.Tie as tie
+
+abbrev asked : tie.After-row-length → tie.After-is-predecessor
+asked c = c .before .before
+
+abbrev start : tie.After-is-predecessor → tie.Start
+start c = c .before .before .before .before
+
+row : (c : tie.After-row-length) → let a = start (asked c) .args in a .date * rowLength (a .settings .now) + rowLength (a .settings .now) ≤ length (a .cells .now)
+row c = let s = start (asked c) in row-fits (s .args .settings .now) (s .args .cells .now) (s .args .date) (s .pre .1) (s .pre .2)
+
+-- the row's start and width as the code has them
+module _ (c : tie.After-row-start) where
+  starts : let a = start (asked (c .before)) .args in c .row-start .result ≡ a .date * rowLength (a .settings .now)
+  starts = c .row-start .ensures ∙ ap (λ (n : ℕ). start (asked (c .before)) .args .date * n) (c .before .row-length .ensures)
+
+  width : c .row-start .result + c .before .row-length .result - c .row-start .result ≡ rowLength (start (asked (c .before)) .args .settings .now)
+  width = omega (arith, c .before .row-length .ensures)
+
+  fit : c .row-start .result + c .before .row-length .result ≤ length (start (asked (c .before)) .args .cells .now)
+  fit = omega (arith, starts, c .before .row-length .ensures, row (c .before))
+
+is-predecessor-requires : tie.Need-is-predecessor-requires
+is-predecessor-requires c κs = search needs
+
+passed-over-requires : tie.Need-passed-over-requires
+passed-over-requires c κs = search needs
+
+returns : tie.Need-returns
+returns c =
+    let o = c .before .before in
+    let s = start o in
+    stepped-as
+    (step-skip leaveRow (s .args .settings .now) (s .args .day) (s .args .date) (s .args .inherited .now) (s .args .cells .now) (s .pre .2)
+    (sym (o .is-predecessor .ensures) ∙ not-true _ (c .before .if1 .taken)))
+    (c .passed-over .ensures .0) (c .passed-over .ensures .1)
+
+row-length-requires : tie.Need-row-length-requires
+row-length-requires c κs = search needs
+
+row-start-requires : tie.Need-row-start-requires
+row-start-requires c κs = rw (c .row-length .ensures) (omega (arith, row c))
+
+add-end : tie.Need-add-end
+add-end c = omega (arith, fit c)
+
+mul-count-row : tie.Need-mul-count-row
+mul-count-row c = omega (arith, fit c)
+
+sub-count-row : tie.Need-sub-count-row
+sub-count-row c = omega arith
+
+part-count-row-start : tie.Need-part-count-row-start
+part-count-row-start c = omega arith
+
+part-count-row-end : tie.Need-part-count-row-end
+part-count-row-end c = omega (arith, fit c)
+
+count-row-requires : tie.Need-count-row-requires
+count-row-requires c κs =
+    let r = c .before .before in
+    let s = start (asked (r .before)) in
+    rw (part-is (rowLength (s .args .settings .now)) (s .args .date) _ _ (s .args .cells .now) (starts r) (width r) (row (r .before))) (s .pre .3)
+
+followed-requires : tie.Need-followed-requires
+followed-requires c κs = search needs
+
+same-length : tie.Need-same-length
+same-length c = search needs
+
+returns-2 : tie.Need-returns-2
+returns-2 c =
+    let r = c .before .before .before .before .before .before in
+    let o = asked (r .before) in
+    let s = start o in
+    let a = s .args in
+    let S = a .settings .now in
+    let e = c .before .before .before .count-row .ensures in
+    stepped-as
+    (step-counted S (a .day) (a .date) (a .inherited .now) (a .cells .now) (s .pre .2)
+    (sym (o .is-predecessor .ensures) ∙ not-false _ (r .before .before .if1 .left))
+    (row-bounds S (ready S (s .pre .0)) .1) (row (r .before)) _ _ (starts r) (width r) _ _ (e .0) (e .1))
+    (c .followed .ensures .0) (c .followed .ensures .1)
+
+pub count-step-spec : {M : Type 1} → statement M
+count-step-spec =
+    tie.close
+    (tie.spec
+    is-predecessor-requires
+    passed-over-requires
+    returns
+    row-length-requires
+    row-start-requires
+    add-end
+    mul-count-row
+    sub-count-row
+    part-count-row-start
+    part-count-row-end
+    count-row-requires
+    followed-requires
+    same-length
+    returns-2)

@@ -1,0 +1,117 @@
+-- `later_dates::write::write_later` meets its contract: what is left of the walk gives what the whole gives.
+use Prim.Native.Nat.{_+_, _-_, _<_}
+use mathlib.Core.Path.{_≡_, refl, ap, _∙_}
+use native.Mathlib.Omega.{arith}
+use lib.ListN.{length}
+use Rattle.ledger.specs.Ready.{ready, header-there}
+use Rattle.ledger.specs.Store.{datesOf}
+use Rattle.ledger.specs.Calls.{putRow, Ran}
+use Rattle.store.proofs.RowLaws.{still-ready}
+use Rattle.later_dates.proofs.Laws.{Walked, walk-start, walk-end, walk-stop, walk-next, walk-room}
+use Rattle.later_dates.proofs.write.write_later.Statement.{statement}
+use Rattle.later_dates.proofs.write.write_later.Tie as tie
+
+abbrev Inv-loop : tie.InvT-loop
+Inv-loop settings cells₀ day first moved inherited₀ dates total₀ d₀ cells inherited total d =
+    (dates ≡ datesOf settings) × (length cells ≡ length cells₀) × (length inherited ≡ length inherited₀)
+    × Walked putRow settings day first moved inherited₀ cells₀ inherited cells total d
+
+abbrev μ-loop : tie.MeasureT-loop
+μ-loop settings cells₀ day first moved inherited₀ dates total₀ d₀ cells inherited total d = dates - d
+
+-- the turn's head, and the function's start
+abbrev head : tie.After-write-step Inv-loop μ-loop → tie.At-loop Inv-loop μ-loop
+head c = c .before .before .before .before
+
+abbrev start : tie.At-loop Inv-loop μ-loop → tie.Start Inv-loop μ-loop
+start c = c .before .before .before .before .before
+
+-- the walk has come to the turn's date, and steps over it
+module _ (c : tie.After-write-step Inv-loop μ-loop) where
+  in-range : head c .loop .d < datesOf (start (head c) .args .settings .now)
+  in-range = rw (← head c .loop .inv .0) (c .before .before .before .loop-test .taken)
+
+  room : (head c .loop .total + c .write-step .result .moved < 18446744073709551616) × (head c .loop .d + 1 < 18446744073709551616)
+  room = walk-room _ _ _ _ _ _ _ _ _ _ _ (head c .loop .inv .3) in-range (c .write-step .ensures) (ready _ (start (head c) .pre .0 .0))
+
+date-count-requires : tie.Need-date-count-requires Inv-loop μ-loop
+date-count-requires c κs = header-there _ (c .before .before .before .pre .0 .0)
+
+loop-holds : tie.Need-loop-holds Inv-loop μ-loop
+loop-holds c =
+    let s = c .before .before .before .before in
+    (c .date-count .ensures, refl, refl, walk-start _ _ _ _ _ _ _ (s .pre .1 .0) (s .pre .1 .1))
+
+write-step-requires : tie.Need-write-step-requires Inv-loop μ-loop
+write-step-requires c κs =
+    let i = c .before .before in
+    let l = i .before .loop in
+    let s = start (i .before) in (
+      s .pre .0 .0,
+      still-ready (s .args .settings .now) (s .args .cells .now) (l .cells) (l .inv .1) (s .pre .0 .1),
+      rw (← l .inv .0) (i .loop-test .taken),
+      rw (l .inv .2) (s .pre .1 .2),
+    )
+
+same-length : tie.Need-same-length Inv-loop μ-loop
+same-length c = let o = c .before .before .before .before .before in o .write-step .kept .1 .0 ∙ head o .loop .inv .1
+
+same-length-2 : tie.Need-same-length-2 Inv-loop μ-loop
+same-length-2 c = let o = c .before .before .before .before .before in o .write-step .kept .1 .1 .1 .1 .0 ∙ head o .loop .inv .2
+
+returns : tie.Need-returns Inv-loop μ-loop
+returns c =
+    let o = c .before .before .before .before .before in
+    let done = walk-stop _ _ _ _ _ _ _ _ _ _ _ (head o .loop .inv .3) (in-range o) (o .write-step .ensures) (c .if1 .taken) in
+    (ap (λ (x : Ran). x .cells) done, ap (λ (x : Ran). x .moved) done)
+
+add-total : tie.Need-add-total Inv-loop μ-loop
+add-total c = omega (arith, room (c .before .before .before .before .before .before) .0)
+
+add-d : tie.Need-add-d Inv-loop μ-loop
+add-d c = omega (arith, room (c .before .before .before .before .before .before) .1)
+
+loop-less : tie.Need-loop-less Inv-loop μ-loop
+loop-less c = omega (arith, c .before .before .before .before .before .before .before .before .before .loop-test .taken)
+
+loop-again : tie.Need-loop-again Inv-loop μ-loop
+loop-again c =
+    let o = c .before .before .before .before .before .before in
+    let l = head o .loop in (
+      l .inv .0,
+      o .write-step .kept .1 .0 ∙ l .inv .1,
+      o .write-step .kept .1 .1 .1 .1 .0 ∙ l .inv .2,
+      walk-next _ _ _ _ _ _ _ _ _ _ _ (l .inv .3) (in-range o) (o .write-step .ensures) (c .before .if1 .left),
+    )
+
+same-length-3 : tie.Need-same-length-3 Inv-loop μ-loop
+same-length-3 c = c .before .loop .inv .1
+
+same-length-4 : tie.Need-same-length-4 Inv-loop μ-loop
+same-length-4 c = c .before .loop .inv .2
+
+returns-2 : tie.Need-returns-2 Inv-loop μ-loop
+returns-2 c =
+    let l = c .before .loop in
+    let done = walk-end _ _ _ _ _ _ _ _ _ _ _ (l .inv .3) (rw (← l .inv .0) (c .loop-test .left)) in
+    (ap (λ (x : Ran). x .cells) done, ap (λ (x : Ran). x .moved) done)
+
+pub write-later-spec : {M : Type 1} → statement M
+write-later-spec =
+    tie.close
+    (tie.spec
+    Inv-loop
+    μ-loop
+    date-count-requires
+    loop-holds
+    write-step-requires
+    same-length
+    same-length-2
+    returns
+    add-total
+    add-d
+    loop-less
+    loop-again
+    same-length-3
+    same-length-4
+    returns-2)

@@ -1,2 +1,0 @@
--- Laws of rows that several proofs cite.
-pub mod Laws

@@ -1,0 +1,3 @@
+-- What the leaves say beyond the ledger crate's definitions.
+pub mod Access
+pub mod Opening

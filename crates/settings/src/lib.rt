@@ -1,0 +1,7 @@
+// The settings part: its header, the category records and the day types, and the lengths that they ask of every part.
+pub mod access;
+pub mod category;
+pub mod header;
+pub mod ready;
+pub mod sizes;
+pub mod writing;
