@@ -1,27 +1,23 @@
 -- A date's row among the cells, the walk over later dates turn by turn, and the run date before a date: each thing that the code has is brought to the definition's.
-use Prim.Native.Nat.{ℕ, suc, _+_, _*_, _-_, _/_, _%_, _≤_, _<_, zero-le}
+use Prim.Native.Nat.{ℕ, suc, _+_, _*_, _-_, _≤_, _<_, zero-le}
 use mathlib.Core.Path.{_≡_, refl, sym, ap, ap₂, _∙_}
-use mathlib.Core.Bool.{Bool, true, false, true≢false, _&&_, cond}
+use mathlib.Core.Bool.{Bool, true, false, true≢false, cond}
 use mathlib.Core.List.{List, _++_, append-assoc}
 use mathlib.Core.Option.{Option, none, some}
 use native.Mathlib.Nat.{add-zero}
 use native.Mathlib.Numerals.{add-one}
 use native.Mathlib.Omega.{arith}
-use lib.Dec.{eqb, leb}
-use lib.Arith.{digits-div, digits-mod}
+use lib.Dec.{eqb}
 use lib.ListN.{length, getD, take, drop}
 use lib.Seq.{drop-drop}
-use borrow.Table.Steps.{cases}
-use borrow.Author.Tests.{leb-false, eqb-true, eqb-false, eq-eqb, ne-eqb, not-false}
-use Rattle.ledger.specs.Method.{wattHours, present, sameFamily, blank}
-use Rattle.ledger.specs.Checks.{runCheck}
-use Rattle.ledger.specs.Ready.{Ready, both}
-use Rattle.ledger.specs.Store.{metersOf, categoriesOf, datesOf, periodsOf, rowLength, categoryOf, dayTypeOf, settingsReady, metersReady, readingsReady, cellsReady, readingAt, entryOf}
+use borrow.Author.Tests.{eqb-true, eqb-false, eq-eqb, ne-eqb}
+use Rattle.ledger.specs.Method.{blank}
+use Rattle.ledger.specs.Ready.{Ready}
+use Rattle.ledger.specs.Store.{datesOf, rowLength, entryOf}
 use Rattle.ledger.specs.Table.{tabulate, filling}
-use Rattle.ledger.specs.Calls.{countsFor, tally, familyTally, freshAt, rowAt, putRow, lastRun, inheritedFrom, differing, carriedEntry, Placing, leaveRow, follows, followedEntry, inheritedBeyond, followRow, inheritedAfter, movedInRow, carryOn, movedByRow, settled, newRow, ranFrom, runUnready, runVerdict}
-use Rattle.entries.specs.Reading.{reading-bound}
-use Rattle.ledger.proofs.Walks.{row-put, put-same, carryOn-end, carryOn-pass, carryOn-stop, carryOn-go, carryOn-same, settled-same}
-use Rattle.ledger.proofs.Lists.{length-tabulate, getD-tabulate, sumBelow-cong, tabulate-ext}
+use Rattle.ledger.specs.Calls.{rowAt, putRow, lastRun, inheritedFrom, differing, carriedEntry, Placing, leaveRow, follows, followedEntry, inheritedBeyond, followRow, inheritedAfter, movedInRow, carryOn}
+use Rattle.ledger.proofs.Walks.{put-same, carryOn-end, carryOn-pass, carryOn-stop, carryOn-go, carryOn-same}
+use Rattle.ledger.proofs.Lists.{length-tabulate, getD-tabulate, tabulate-ext}
 use Rattle.entries.proofs.RowLaws.{filling-below, part-at, part-length, differing-le, differing-ext, differing-none}
 use Rattle.entries.specs.Row.{spliced}
 use Rattle.later_dates.specs.Walk.{Stepped}

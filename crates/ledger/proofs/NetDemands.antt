@@ -1,5 +1,5 @@
 -- What is promised of net reads.
-use Prim.Native.Nat.{ℕ, zero, suc, _+_, _≤_, _<_}
+use Prim.Native.Nat.{ℕ, zero, suc, _≤_, _<_}
 use mathlib.Core.Path.{_≡_, refl, sym, ap, ap₂, _∙_}
 use mathlib.Core.Logic.{_≢_}
 use mathlib.Core.Bool.{Bool, true, false, not, _||_, cond, and-eq-true-iff, or-true, true≢false}
@@ -7,7 +7,7 @@ use mathlib.Core.List.{List, [], _∷_, _++_, map, map-append}
 use native.Mathlib.Omega.{arith}
 use native.Mathlib.Nat.{zero-add, add-zero}
 use lib.Dec.{eqb, ltb}
-use lib.ListN.{length, getD}
+use lib.ListN.{length}
 use lib.IntN.{ℤ, pos, negℤ, _+ℤ_, _-ℤ_, +ℤ-assoc, +ℤ-idl, +ℤ-idr}
 use borrow.Table.Steps.{cases}
 use borrow.Author.Tests.{eq-eqb, eqb-true, eqb-false, ltb-true, ltb-false}
@@ -17,7 +17,7 @@ use Rattle.ledger.specs.Method.{Category, categoryAt, isSmart, sameFamil
 use Rattle.ledger.specs.Table.{tabulate}
 use Rattle.ledger.specs.Net.{activeImport, activeExport, onSide, chosenBelow, sideOf, sumOver, anyOf, signedSum, isN, netPeriod, markOf, netTot, netOn}
 use Rattle.ledger.specs.Checks.{anyBelow, firstFailed, verdict, recordAt, sameKey, categoryNumber, dayTypeNumber, sizesValid, openingCheck, orElse, mayNet}
-use Rattle.ledger.specs.Ledger.{Opening, categories, dates, periods, category, dayType, Ledger, cellBy, cellAt, isRun, dayOf, totalsAt, sideAt, netAt}
+use Rattle.ledger.specs.Ledger.{Opening, categories, dates, periods, category, Ledger, cellBy, cellAt, isRun, dayOf, totalsAt, sideAt, netAt}
 use Rattle.ledger.specs.Engine.{Every}
 use Rattle.ledger.specs.Demands.{OnSide, SideExact, OwnGroupPair, signedTotal, NetTotIsSum, NetOfTotals, OwnGroupNetOfTotals, MarkExact, NothingNetsToZero, SidesExchanged}
 use Rattle.ledger.proofs.Choices.{verdict-passed, neither}

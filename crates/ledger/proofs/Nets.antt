@@ -10,7 +10,6 @@ use lib.IntN.{ℤ, pos, negℤ, _+ℤ_, _-ℤ_, +ℤ-assoc, +ℤ-comm, negℤ-+�
 use borrow.Table.Steps.{cases}
 use Rattle.metering.specs.Sum.{sumBelow}
 use Rattle.ledger.specs.Method.{Cell, overRunDates}
-use Rattle.ledger.specs.Table.{tabulate}
 use Rattle.ledger.specs.Net.{chosenBelow, sumOver, anyOf, signedSum, isN, netPeriod, markOf, netTot, netTot7, netOn}
 use Rattle.ledger.specs.Engine.{Every}
 use Rattle.ledger.proofs.Lists.{sumBelow-cong, sumBelow-none, sumBelow-plus, tabulate-ext}

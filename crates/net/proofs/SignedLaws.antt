@@ -1,5 +1,5 @@
 -- A difference of two natural numbers as a signed integer of 64 bits.
-use Prim.Native.Nat.{ℕ, zero, suc, _-_, _<_}
+use Prim.Native.Nat.{ℕ, zero, suc, _<_}
 use mathlib.Core.Path.{_≡_}
 use native.Mathlib.Omega.{arith}
 use borrow.Table.Steps.{cases}

@@ -1,28 +1,26 @@
 -- The new row made from sums and counts, the verdict, and what a run leaves: each thing that the code has is brought to the definition's.
 use Prim.Native.Nat.{ℕ, suc, _+_, _*_, _-_, _/_, _%_, _≤_, _<_, zero-le}
-use mathlib.Core.Path.{_≡_, refl, sym, ap, ap₂, _∙_}
-use mathlib.Core.Bool.{Bool, true, false, true≢false, _&&_, cond}
-use mathlib.Core.List.{List, _++_, append-assoc}
-use mathlib.Core.Option.{Option, none, some}
-use native.Mathlib.Nat.{add-zero}
+use mathlib.Core.Path.{_≡_, refl, ap, ap₂, _∙_}
+use mathlib.Core.Bool.{Bool, true, false, _&&_, cond}
+use mathlib.Core.List.{List}
+use mathlib.Core.Option.{Option}
 use native.Mathlib.Numerals.{add-one}
 use native.Mathlib.Omega.{arith}
-use lib.Dec.{eqb, leb}
+use lib.Dec.{leb}
 use lib.Arith.{digits-div, digits-mod}
-use lib.ListN.{length, getD, take, drop}
-use lib.Seq.{drop-drop}
+use lib.ListN.{length, getD}
 use borrow.Table.Steps.{cases}
-use borrow.Author.Tests.{leb-false, eqb-true, eqb-false, eq-eqb, ne-eqb, not-false}
-use Rattle.ledger.specs.Method.{wattHours, present, sameFamily, blank}
+use borrow.Author.Tests.{leb-false, not-false}
+use Rattle.ledger.specs.Method.{wattHours, present, sameFamily}
 use Rattle.ledger.specs.Checks.{runCheck}
 use Rattle.ledger.specs.Ready.{Ready, both}
-use Rattle.ledger.specs.Store.{metersOf, categoriesOf, datesOf, periodsOf, rowLength, categoryOf, dayTypeOf, settingsReady, metersReady, readingsReady, cellsReady, readingAt, entryOf}
+use Rattle.ledger.specs.Store.{metersOf, categoriesOf, datesOf, periodsOf, rowLength, categoryOf, dayTypeOf, settingsReady, metersReady, readingsReady, cellsReady, readingAt}
 use Rattle.ledger.specs.Table.{tabulate, filling}
-use Rattle.ledger.specs.Calls.{countsFor, tally, familyTally, freshAt, rowAt, putRow, lastRun, inheritedFrom, differing, carriedEntry, Placing, leaveRow, follows, followedEntry, inheritedBeyond, followRow, inheritedAfter, movedInRow, carryOn, movedByRow, settled, newRow, ranFrom, runUnready, runVerdict}
+use Rattle.ledger.specs.Calls.{countsFor, tally, familyTally, freshAt, rowAt, putRow, lastRun, inheritedFrom, carriedEntry, carryOn, movedByRow, settled, newRow, ranFrom, runUnready, runVerdict}
 use Rattle.entries.specs.Reading.{reading-bound}
-use Rattle.ledger.proofs.Walks.{row-put, put-same, carryOn-end, carryOn-pass, carryOn-stop, carryOn-go, carryOn-same, settled-same}
-use Rattle.ledger.proofs.Lists.{length-tabulate, getD-tabulate, sumBelow-cong, tabulate-ext}
-use Rattle.entries.proofs.RowLaws.{filling-below, sumBelow-times, differing-le, differing-ext, differing-none}
+use Rattle.ledger.proofs.Walks.{row-put, carryOn-same, settled-same}
+use Rattle.ledger.proofs.Lists.{length-tabulate, getD-tabulate, sumBelow-cong}
+use Rattle.entries.proofs.RowLaws.{filling-below, sumBelow-times, differing-le}
 use Rattle.run_date.specs.Sums.{tallyBelow, Tallied, Bounded, pooledBelow, entryFrom, rowFrom}
 use Rattle.run_date.proofs.Laws.{place-below, category-below, period-below, place-is, tally-most}
 

@@ -13,7 +13,7 @@ ghost use Rattle.ledger.specs.Calls.{openedSettings};
 ghost use Rattle.settings.specs.Opening.{openingCall};
 
 // Big-endian.
-pub fn put_word(part: &mut [u8], at: usize, n: u64)
+fn put_word(part: &mut [u8], at: usize, n: u64)
     requires { ⌜ (at + 1 < length (now part)) × (n < 65536) ⌝ }
     ensures { λ r. ⌜ now (part .exit) ≡ sets (now (part .entry)) at (wordBytes n) ⌝ }
 {
@@ -21,7 +21,7 @@ pub fn put_word(part: &mut [u8], at: usize, n: u64)
     part[at + 1] = (n % 256) as u8;
 }
 
-pub fn copy(part: &mut [u8], at: usize, source: &[u8])
+fn copy(part: &mut [u8], at: usize, source: &[u8])
     requires { ⌜ at + length (now source) ≤ length (now part) ⌝ }
     ensures { λ r. ⌜ now (part .exit) ≡ sets (now (part .entry)) at (now (source .entry)) ⌝ }
 {
