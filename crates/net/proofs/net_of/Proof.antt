@@ -14,6 +14,9 @@ start c = c .before .before .before .before .before
 abbrev written : tie.After-difference2 → tie.After-write-periods
 written c = c .before .before .before .before .before .before .before .before .before
 
+abbrev after-difference : tie.After-difference2 → tie.After-difference
+after-difference c = c .before .before .before
+
 write-periods-requires : tie.Need-write-periods-requires
 write-periods-requires c κs = search needs
 
@@ -49,12 +52,12 @@ returns c =
     let pre = start w .pre in
     let day = w .write-periods .ensures in
     let sums = w .write-periods .result in
-    let import-before = c .before .before .before .before .before .earlier-sum in
-    let export-before = c .before .before .before .before .earlier-sum2 in
+    let import-before = after-difference c .before .before .earlier-sum in
+    let export-before = after-difference c .before .earlier-sum2 in
     let import-small = day-small (day .imported) (pre .reaches .periods .1) in
     let export-small = day-small (day .exported) (pre .reaches .periods .1) in
     net-written (now (a .cells)) (a .column) (a .date) _ _ _ _ _ _ _ _ _ _ _ _ (pre .run) day (import-before .ensures .is) (export-before .ensures .is)
-    (difference-back _ (sums .import) (sums .export) (c .before .before .before .difference .ensures) (omega (arith, import-small)) (omega (arith, export-small)))
+    (difference-back _ (sums .import) (sums .export) (after-difference c .difference .ensures) (omega (arith, import-small)) (omega (arith, export-small)))
     (difference-back _ (sums .import + import-before .result) (sums .export + export-before .result) (c .difference2 .ensures) (omega (arith, import-small, week-small (import-before .ensures) (pre .imported .few))) (omega (arith, export-small, week-small (export-before .ensures) (pre .exported .few))))
 
 pub net-of-spec : {M : Type 1} → statement M

@@ -26,6 +26,15 @@ found c = c .before
 abbrev paired : tie.After-column-of → tie.Else2
 paired c = c .before .before .before
 
+abbrev start-of-then1 : tie.Then1 → tie.Start
+start-of-then1 c = c .before .before .before .before .before
+
+abbrev after-column-of : tie.After-net-of-arg2 → tie.After-column-of
+after-column-of c = c .before .before .before .before
+
+abbrev after-net-of : tie.After-slice-known2 → tie.After-net-of
+after-net-of c = c .before .before .before
+
 in-range : (c : tie.Else1) → let a = start c .args in
     Long (now (a .settings)) (now (a .cells)) (length (now (a .numbers))) (length (now (a .marks))) × (a .date < datesOf (now (a .settings))) × (a .category < categoriesOf (now (a .settings)))
 in-range c = range-passed _ _ _ _ _ _ (sym (c .before .range-number .ensures) ∙ c .if1 .left)
@@ -55,7 +64,7 @@ range-number-requires c κs = search needs
 
 returns : tie.Need-returns
 returns c =
-    let a = c .before .before .before .before .before .args in
+    let a = start-of-then1 c .args in
     refuses (now (a .settings)) (now (a .cells)) (a .all-groups) (a .date) (a .category) (now (a .numbers)) (now (a .marks)) _
     (by-range (now (a .settings)) (now (a .cells)) (a .all-groups) (a .date) (a .category) (now (a .numbers)) (now (a .marks)) _ (c .before .range-number .ensures) (c .if1 .taken))
     (c .if1 .taken)
@@ -79,7 +88,7 @@ column-of-requires c κs = passed (c .before .before) .opened
 
 net-of-requires : tie.Need-net-of-requires
 net-of-requires c κs =
-    let col = c .before .before .before .before in
+    let col = after-column-of c in
     let pair = paired col in
     let m = found (pair .before) in
     let a = start (ranged m) .args in
@@ -94,7 +103,7 @@ same-length-2 c = search needs
 
 returns-3 : tie.Need-returns-3
 returns-3 c =
-    let col = c .before .before .before .before .before .before .before .before in
+    let col = after-column-of (after-net-of c .before) in
     let pair = paired col in
     let m = found (pair .before) in
     let a = start (ranged m) .args in
@@ -103,7 +112,7 @@ returns-3 c =
     (pair .if2 .left)
     (col .before .members2 .ensures)
     (m .members .ensures)
-    (net-asked _ _ (a .category) _ _ _ (col .column-of .ensures) (c .before .before .before .net-of .ensures))
+    (net-asked _ _ (a .category) _ _ _ (col .column-of .ensures) (after-net-of c .net-of .ensures))
 
 pub read-net-spec : {M : Type 1} → statement M
 read-net-spec =

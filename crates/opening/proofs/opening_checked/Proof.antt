@@ -26,6 +26,12 @@ types c = c .before .before
 abbrev sizes : tie.After-enum-told → tie.Else1
 sizes c = records c .before
 
+abbrev after-enum-told2 : tie.Else2 → tie.After-enum-told2
+after-enum-told2 c = c .before .before .before
+
+abbrev after-enum-told2-of-then2 : tie.Then2 → tie.After-enum-told2
+after-enum-told2-of-then2 c = c .before .before .before
+
 abbrev call : tie.Else1 → Opening
 call c = let a = start c .args in openingCall (a .terms) (now (a .category-records)) (now (a .day-types))
 
@@ -88,13 +94,13 @@ too-short-requires c κs = search needs
 
 returns-4 : tie.Need-returns-4
 returns-4 c =
-    let t = c .before .before .before in
+    let t = after-enum-told2-of-then2 c in
     let r = types t .before in
     short-refused _ _ (valid (sizes r)) (records-good r) (types-good t) (sym (short (c .before)) ∙ c .if2 .taken)
 
 returns-5 : tie.Need-returns-5
 returns-5 c =
-    let t = c .before .before .before in
+    let t = after-enum-told2 c in
     let r = types t .before in
     opening-accepted _ _ (valid (sizes r)) (records-good r) (types-good t) (sym (short (c .before)) ∙ c .if2 .left)
 

@@ -14,13 +14,16 @@ use Rattle.registration.proofs.fields_number.Tie as tie
 abbrev start : tie.Else1 → tie.Start
 start c = c .before .before
 
+abbrev else1 : tie.Else3 → tie.Else1
+else1 c = c .before .before .before .before
+
 minute-is : (c : tie.Else1) → leb (start c .args .minute) 1439 ≡ true
 minute-is c = le-leb _ _ (c .if1 .left)
 
 category-is : (c : tie.Else2) → let a = start (c .before .before) .args in ltb (a .category) (categoriesOf (now (a .settings))) ≡ true
 category-is c = rw (← c .before .category-count .ensures, lt-ltb _ _ (c .if2 .left))
 
-status-is : (c : tie.Else3) → between 1 3 (start (c .before .before .before .before) .args .status) ≡ true
+status-is : (c : tie.Else3) → between 1 3 (start (else1 c) .args .status) ≡ true
 status-is c = sym (c .before .between .ensures) ∙ not-false _ (c .if3 .left)
 
 returns : tie.Need-returns

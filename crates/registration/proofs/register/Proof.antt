@@ -31,6 +31,12 @@ ranged c = c .before .before .before
 abbrev found : tie.After-meter-number → tie.After-slot-of
 found c = c .before .before
 
+abbrev start-of-then1 : tie.Then1 → tie.Start
+start-of-then1 c = c .before .before .before .before .before .before
+
+abbrev else1 : tie.Else2 → tie.Else1
+else1 c = c .before .before .before
+
 passed : (c : tie.Else1) → let a = start c .args in callNumber (metersUnready (now (a .settings)) (now (a .meters)) (now (a .readings))) (datesOf (now (a .settings))) (a .mpan) (a .date) ≡ 0
 passed c = sym (c .before .call-number .ensures) ∙ c .if1 .left
 
@@ -58,7 +64,7 @@ same-length : tie.Need-same-length
 same-length c = search needs
 
 returns : tie.Need-returns
-returns c = refused-with _ _ _ _ _ (verdict-call _ _ _ (call (c .before .before .before .before .before .before)) (c .before .call-number .ensures) (c .if1 .taken)) (c .if1 .taken)
+returns c = refused-with _ _ _ _ _ (verdict-call _ _ _ (call (start-of-then1 c)) (c .before .call-number .ensures) (c .if1 .taken)) (c .if1 .taken)
 
 start-of-requires : tie.Need-start-of-requires
 start-of-requires c κs =
@@ -79,11 +85,11 @@ returns-2 c =
     refused-with _ _ _ _ _ (verdict-fields _ _ _ (call (start e)) (passed e) _ (f .before .start-of .ensures) (f .fields-number .ensures) (c .if2 .taken)) (c .if2 .taken)
 
 meter-count-requires : tie.Need-meter-count-requires
-meter-count-requires c κs = let k = parts (c .before .before .before) in omega arith
+meter-count-requires c κs = let k = parts (else1 c) in omega arith
 
 slot-of-requires : tie.Need-slot-of-requires
 unfolding metersLength
-slot-of-requires c κs = let k = parts (c .before .before .before .before .before) in omega (arith, c .before .meter-count .ensures)
+slot-of-requires c κs = let k = parts (else1 (c .before .before)) in omega (arith, c .before .meter-count .ensures)
 
 meter-number-requires : tie.Need-meter-number-requires
 meter-number-requires c κs = (call-passed _ _ _ _ (passed (called (c .before))) .long, slot (c .before))

@@ -10,6 +10,9 @@ use Rattle.ledger.specs.Store.{entryOf}
 use Rattle.run.proofs.run_accepted.Statement.{statement}
 use Rattle.run.proofs.run_accepted.Tie as tie
 
+abbrev start : tie.After-inherited → tie.Start
+start c = c .before .before .before .before .before .before .before .before
+
 blank-is : _≡_ {A = ℕ} 4294901764 (entryOf blank)
 unfolding entryOf blank
 blank-is = refl
@@ -25,7 +28,7 @@ slice-aggregate-run-with-3 c = search needs
 
 run-with-requires : tie.Need-run-with-requires
 run-with-requires c κs =
-    let s = c .before .before .before .before .before .before .before .before in
+    let s = start c in
     let S = s .args .settings .now in
     let small = row-bounds S (ready S (s .pre .0)) .1 in (
       s .pre,

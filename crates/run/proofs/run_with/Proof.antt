@@ -15,9 +15,21 @@ summed c = c .before .before .before .before .before .before .before
 abbrev start : tie.After-tally-date → tie.Start
 start c = c .before .before .before .before .before .before .before .before .before .before
 
+abbrev start-of-after-tally-date-arg2 : tie.After-tally-date-arg2 → tie.Start
+start-of-after-tally-date-arg2 c = c .before .before .before .before .before .before .before .before .before
+
+abbrev after-tally-date : tie.After-inherit-arg2 → tie.After-tally-date
+after-tally-date c = c .before .before .before .before .before .before
+
+abbrev after-inherit : tie.After-settle-arg4 → tie.After-inherit
+after-inherit c = c .before .before .before .before .before .before
+
+abbrev after-settle : tie.After-slice-known9 → tie.After-settle
+after-settle c = c .before .before .before .before
+
 tally-date-requires : tie.Need-tally-date-requires
 tally-date-requires c κs =
-    let s = c .before .before .before .before .before .before .before .before .before in
+    let s = start-of-after-tally-date-arg2 c in
     let a = s .args in (
       (s .pre .0 .0, s .pre .0 .1, s .pre .0 .2, s .pre .0 .4),
       (
@@ -31,12 +43,12 @@ tally-date-requires c κs =
 
 inherit-requires : tie.Need-inherit-requires
 inherit-requires c κs =
-    let s = start (c .before .before .before .before .before .before) in
+    let s = start (after-tally-date c) in
     ((s .pre .0 .0, s .pre .0 .3), ((s .pre .0 .4, s .pre .1 .0 .2), λ k l. s .pre .1 .1 k l .2))
 
 settle-requires : tie.Need-settle-requires
 settle-requires c κs =
-    let i = c .before .before .before .before .before .before in
+    let i = after-inherit c in
     let tallied = summed i .tally-date in
     let s = start (summed i) in
     let a = s .args in
@@ -64,7 +76,7 @@ same-length-4 c = search needs
 
 returns : tie.Need-returns
 returns c =
-    let i = c .before .before .before .before .before .before .before .before .before .before .before in
+    let i = after-inherit (after-settle c .before) in
     let tallied = summed i .tally-date in
     let s = start (summed i) in
     let a = s .args in
@@ -73,7 +85,7 @@ returns c =
     new-is S (a .meters .now) (a .readings .now) (a .date) (ready S (s .pre .0 .0)) (tallied .last .1 .1 .1 .1 .0) (tallied .last .1 .1 .1 .1 .1 .0)
     (tallied .ensures .0) (tallied .ensures .1) (a .cells .now) (i .inherit .last .1 .1 .1 .0) (i .inherit .ensures) in
     let is = ran-is S (a .meters .now) (a .readings .now) (a .cells .now) _ (a .date) new in
-    let e = c .before .before .before .before .settle .ensures in
+    let e = after-settle c .settle .ensures in
     (e .0 ∙ ap (λ (x : Ran). x .cells) is, e .1 ∙ ap (λ (x : Ran). x .moved) is)
 
 pub run-with-spec : {M : Type 1} → statement M

@@ -19,6 +19,15 @@ written c = c .before .before .before
 abbrev start : tie.After-write-date → tie.Start
 start c = c .before .before .before .before .before .before .before .before
 
+abbrev after-row-length : tie.After-day-type → tie.After-row-length
+after-row-length c = c .before .before .before .before .before .before .before .before
+
+abbrev after-carry-row : tie.After-write-later-arg2 → tie.After-carry-row
+after-carry-row c = c .before .before .before .before .before
+
+abbrev after-write-later-arg2 : tie.After-slice-known6 → tie.After-write-later-arg2
+after-write-later-arg2 c = c .before .before .before .before .before
+
 row : (c : tie.After-write-date) → let a = start c .args in a .date * rowLength (a .settings .now) + rowLength (a .settings .now) ≤ length (a .cells .now)
 row c = let s = start c in row-fits (s .args .settings .now) (s .args .cells .now) (s .args .date) (s .pre .0 .1) (s .pre .0 .2)
 
@@ -48,13 +57,13 @@ day-type-requires c κs = search needs
 
 add-write-later : tie.Need-add-write-later
 add-write-later c =
-    let s = c .before .before .before .before .before .before .before .before .before .before .before .before .before .before .before .before .before .before .before in
+    let s = start (written (after-row-length c)) in
     let known = ready _ (s .pre .0 .0) in
     omega (arith, s .pre .0 .2, known .dates .1)
 
 write-later-requires : tie.Need-write-later-requires
 write-later-requires c κs =
-    let w = c .before .before .before .before .before .before .before .before .before .before .before .before in
+    let w = written (after-row-length (c .before)) in
     let s = start w in
     let S = s .args .settings .now in
     let most : w .write-date .result ≤ rowLength S = moved-by-le _ _ _ _ _ (w .write-date .ensures .1) in (
@@ -62,7 +71,7 @@ write-later-requires c κs =
       (
         omega (arith, s .pre .0 .2),
         omega (arith, row-bounds S (ready S (s .pre .0 .0))),
-        rw (c .before .before .before .before .before .carry-row .kept .1 .1 .1 .0) (s .pre .1 .2),
+        rw (after-carry-row c .carry-row .kept .1 .1 .1 .0) (s .pre .1 .2),
       ),
     )
 
@@ -74,15 +83,15 @@ same-length-2 c = search needs
 
 returns : tie.Need-returns
 returns c =
-    let r = c .before .before .before .before .before .before .before .before .before .before .before .before in
+    let r = after-carry-row (after-write-later-arg2 c) .before .before in
     let w = written (r .before .before) in
     let a = start w .args in
     let S = a .settings .now in
     let e = c .before .before .before .before .write-later .ensures in
     let day : c .before .before .before .before .before .before .day-type .result ≡ dayTypeOf S (a .date) = c .before .before .before .before .before .before .day-type .ensures in
     let is =
-    settles S _ (a .cells .now) (a .date) (row w) _ _ (a .inherited .now) (c .before .before .before .before .before .before .before .before .before .before .carry-row .last .1 .1 .1 .0) (w .write-date .last .1 .1 .1 .1 .0) (w .write-date .result)
-    (at r) (r .before .before .row-length .ensures) (w .write-date .ensures .0) (w .write-date .ensures .1) (c .before .before .before .before .before .before .before .before .before .before .carry-row .ensures) in
+    settles S _ (a .cells .now) (a .date) (row w) _ _ (a .inherited .now) (after-carry-row (after-write-later-arg2 c) .carry-row .last .1 .1 .1 .0) (w .write-date .last .1 .1 .1 .1 .0) (w .write-date .result)
+    (at r) (r .before .before .row-length .ensures) (w .write-date .ensures .0) (w .write-date .ensures .1) (after-carry-row (after-write-later-arg2 c) .carry-row .ensures) in
     (rw day at (e .0) ∙ ap (λ (x : Ran). x .cells) is, rw day at (e .1) ∙ ap (λ (x : Ran). x .moved) is)
 
 pub settle-spec : {M : Type 1} → statement M

@@ -12,25 +12,49 @@ use Rattle.commands.proofs.calls.ask.Tie as tie
 abbrev start : tie.After-shared-slice-known3 → tie.Start
 start c = c .before .before .before .before .before .before .before
 
+abbrev at-match-keys2 : tie.After-receive-arg3 → tie.At-match-keys2
+at-match-keys2 c = c .before .before .before
+
+abbrev at-match-keys1 : tie.After-register-arg3 → tie.At-match-keys1
+at-match-keys1 c = c .before .before .before
+
+abbrev at-match-keys3 : tie.After-run-arg4 → tie.At-match-keys3
+at-match-keys3 c = c .before .before .before .before
+
+abbrev at-match-keys4 : tie.After-slice-known11 → tie.At-match-keys4
+at-match-keys4 c = c .before .before .before .before .before
+
+abbrev at-match-rest : tie.After-slice-known12 → tie.At-match-rest
+at-match-rest c = c .before .before .before .before .before
+
+abbrev after-register : tie.After-slice-known6 → tie.After-register
+after-register c = c .before .before .before .before
+
+abbrev after-receive : tie.After-slice-known8 → tie.After-receive
+after-receive c = c .before .before .before .before
+
+abbrev after-run : tie.After-slice-known10 → tie.After-run
+after-run c = c .before .before .before .before
+
 shared-slice-read-code : tie.Need-shared-slice-read-code
 shared-slice-read-code c = some-there _ (start c .pre .0 .0)
 
 register-requires : tie.Need-register-requires
 register-requires c κs =
-    let m = c .before .before .before in
+    let m = at-match-keys1 c in
     let s = start (m .before) in
     (registration-there _ (s .pre .0 .0) (m .match .keys1), omega (arith, s .pre .0 .1))
 
 receive-requires : tie.Need-receive-requires
 receive-requires c κs =
-    let m = c .before .before .before in
+    let m = at-match-keys2 c in
     let s = start (m .before) in
     let code = m .match .keys2 in
     (reception-there _ (s .pre .0 .0) code, records-there _ (s .pre .0 .0) code, omega (arith, s .pre .0 .1))
 
 run-requires : tie.Need-run-requires
 run-requires c κs =
-    let m = c .before .before .before .before in
+    let m = at-match-keys3 c in
     let s = start (m .before) in
     (run-there _ (s .pre .0 .0) (m .match .keys3), omega (arith, s .pre .0 .1))
 
@@ -65,9 +89,9 @@ same-length-3 c = search needs
 
 returns : tie.Need-returns
 returns c =
-    let m = c .before .before .before .before .before .before .before .before in
+    let m = at-match-keys1 (after-register c .before) in
     let a = start (m .before) .args in
-    let done = c .before .before .before .before .register .ensures in
+    let done = after-register c .register .ensures in
     let told = registered (now (a .settings)) (now (a .meters)) (now (a .readings)) (now (a .cells)) (now (a .command)) (now (a .out)) _ (a .at) _ _ (m .match .keys1) (done .0) (done .1 .0) in
     (told .0, (told .1, done .1 .1))
 
@@ -82,9 +106,9 @@ same-length-6 c = search needs
 
 returns-2 : tie.Need-returns-2
 returns-2 c =
-    let m = c .before .before .before .before .before .before .before .before in
+    let m = at-match-keys2 (after-receive c .before) in
     let a = start (m .before) .args in
-    let done = c .before .before .before .before .receive .ensures in
+    let done = after-receive c .receive .ensures in
     let told = received (now (a .settings)) (now (a .meters)) (now (a .readings)) (now (a .cells)) (now (a .command)) (now (a .out)) _ (a .at) _ _ (m .match .keys2) (done .0) (done .1 .0) in
     (told .0, (told .1, done .1 .1))
 
@@ -102,9 +126,9 @@ same-length-10 c = search needs
 
 returns-3 : tie.Need-returns-3
 returns-3 c =
-    let m = c .before .before .before .before .before .before .before .before .before in
+    let m = at-match-keys3 (after-run c .before) in
     let a = start (m .before) .args in
-    let done = c .before .before .before .before .run .ensures in
+    let done = after-run c .run .ensures in
     let told = ran (now (a .settings)) (now (a .meters)) (now (a .readings)) (now (a .cells)) (now (a .command)) (now (a .out)) _ (a .at) _ _ (m .match .keys3) (done .0) (done .1 .0) in
     (told .0, (told .1, done .1 .1))
 
@@ -116,7 +140,7 @@ same-length-12 c = search needs
 
 returns-4 : tie.Need-returns-4
 returns-4 c =
-    let m = c .before .before .before .before .before in
+    let m = at-match-keys4 c in
     let a = start (m .before) .args in
     let done = c .before .before .totals .ensures in
     let told = totals-read (now (a .settings)) (now (a .meters)) (now (a .readings)) (now (a .cells)) (now (a .command)) (now (a .out)) _ (a .at) _ (m .match .keys4) (done .0) in
@@ -130,7 +154,7 @@ same-length-14 c = search needs
 
 returns-5 : tie.Need-returns-5
 returns-5 c =
-    let m = c .before .before .before .before .before in
+    let m = at-match-rest c in
     let a = start (m .before) .args in
     let done = c .before .before .cell .ensures in
     let told = cell-read (now (a .settings)) (now (a .meters)) (now (a .readings)) (now (a .cells)) (now (a .command)) (now (a .out)) _ (a .at) _ (reads-cell m) (done .0) in

@@ -19,6 +19,15 @@ Inv-loop command records body₀ from₀ to₀ taken₀ body from to taken =
 abbrev μ-loop : tie.MeasureT-loop
 μ-loop command records body₀ from₀ to₀ taken₀ body from to taken = records - taken
 
+abbrev start : tie.At-loop Inv-loop μ-loop → tie.Start Inv-loop μ-loop
+start c = c .before .before .before
+
+abbrev at-loop : tie.After-append-arg2 Inv-loop μ-loop → tie.At-loop Inv-loop μ-loop
+at-loop c = c .before .before .before
+
+abbrev after-append-arg2 : tie.After-slice-known2 Inv-loop μ-loop → tie.After-append-arg2 Inv-loop μ-loop
+after-append-arg2 c = c .before .before .before
+
 loop-holds : tie.Need-loop-holds Inv-loop μ-loop
 loop-holds c = (sym (no-bodies _), search needs, search needs, search needs, search needs, search needs, search needs)
 
@@ -39,7 +48,7 @@ part-append-end c = search needs
 
 append-requires : tie.Need-append-requires Inv-loop μ-loop
 append-requires c κs =
-    omega (arith, part-length (now (c .before .before .before .before .before .before .args .command)) (c .before .before .before .loop .from) (omega arith))
+    omega (arith, part-length (now (start (at-loop c) .args .command)) (at-loop c .loop .from) (omega arith))
 
 add-from : tie.Need-add-from Inv-loop μ-loop
 add-from c = search needs
@@ -52,8 +61,8 @@ loop-less c = search needs
 
 loop-again : tie.Need-loop-again Inv-loop μ-loop
 loop-again c =
-    let l = c .before .before .before .before .before .before .loop in
-    let command = now (c .before .before .before .before .before .before .before .before .before .args .command) in
+    let l = at-loop (after-append-arg2 c) .loop in
+    let command = now (start (at-loop (after-append-arg2 c)) .args .command) in
     let part = part-length command (l .from) (omega arith) in (
       body-step command (l .body) _ (l .from) (l .to) (l .taken) _ (l .inv .2) (l .inv .0) (c .before .before .append .ensures),
       omega (arith, part, c .before .before .append .ensures .end),
@@ -70,7 +79,7 @@ same-length c = search needs
 returns : tie.Need-returns Inv-loop μ-loop
 returns c =
     let l = c .before .loop in
-    let all : l .taken ≡ c .before .before .before .before .args .records = omega arith in
+    let all : l .taken ≡ start (c .before) .args .records = omega arith in
     (omega arith, rw all at (l .inv .0))
 
 pub gather-spec : {M : Type 1} → statement M

@@ -13,6 +13,12 @@ use Rattle.commands.proofs.calls.open.Tie as tie
 abbrev start : tie.After-parts-suffice → tie.Start
 start c = c .before .before .before .before .before .before .before .before .before .before
 
+abbrev then1 : tie.After-slice-known10 → tie.Then1
+then1 c = c .before .before .before .before .before .before .before .before .before .before .before .before .before .before .before .before .before
+
+abbrev else1 : tie.After-slice-known15 → tie.Else1
+else1 c = c .before .before .before .before .before .before .before .before .before .before .before .before .before .before .before .before .before
+
 abbrev asked : tie.After-parts-suffice → Opening
 asked c = let a = start c .args in openingOf (now (a .command)) (now (a .category-records)) (now (a .day-types))
 
@@ -53,7 +59,7 @@ returns : tie.Need-returns
 returns c =
     let t = c .before .before .before .before .before .before .before .before .before .before .before .before in
     let s = c .before .before .before .before .before .before .before .before .before .before .before .before .before .before .before .before .before .before in
-    let enough = sym (suffices s) ∙ c .before .before .before .before .before .before .before .before .before .before .before .before .before .before .before .before .before .if1 .taken in
+    let enough = sym (suffices s) ∙ then1 c .if1 .taken in
     let opened = rw (s .before .opening-operands .ensures) at (t .«open» .ensures) in
     let put = c .before .before .append-outcome .ensures in
     (lent-line (start s .args .capacity) (parts s) (asked s) enough opened (put .0), (lent-parts (start s .args .capacity) (parts s) (asked s) enough opened, put .1))
@@ -107,7 +113,7 @@ returns-2 : tie.Need-returns-2
 returns-2 c =
     let t = c .before .before .before .before .before .before .before .before .before .before .before .before .open2 in
     let s = c .before .before .before .before .before .before .before .before .before .before .before .before .before .before .before .before .before .before in
-    let short = sym (suffices s) ∙ c .before .before .before .before .before .before .before .before .before .before .before .before .before .before .before .before .before .if1 .left in
+    let short = sym (suffices s) ∙ else1 c .if1 .left in
     let opened = rw (s .before .opening-operands .ensures) at (t .ensures) in
     let put = c .before .before .append-outcome2 .ensures in
     let kept = kept-parts (start s .args .capacity) (parts s) (asked s) short

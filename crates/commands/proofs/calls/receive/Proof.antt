@@ -14,12 +14,21 @@ use Rattle.commands.proofs.calls.receive.Tie as tie
 abbrev start : tie.After-reception-operands → tie.Start
 start c = c .before .before .before .before .before .before
 
+abbrev after-shared-slice-known : tie.After-reception-operands → tie.After-shared-slice-known
+after-shared-slice-known c = c .before .before .before .before .before
+
+abbrev after-reception-operands : tie.After-receive-arg → tie.After-reception-operands
+after-reception-operands c = c .before .before .before .before
+
+abbrev after-gather : tie.After-body3 → tie.After-gather
+after-gather c = c .before .before .before
+
 -- the count of records is one byte
 counted : (c : tie.After-reception-operands) → c .reception-operands .result .records ≡ getD (now (start c .args .command)) 15 0
 counted c = ap (λ (r : Reception). r .records) (c .reception-operands .ensures) ∙ one-byte (now (start c .args .command)) 15
 
 few : (c : tie.After-reception-operands) → c .reception-operands .result .records ≤ 255
-few c = omega (arith, counted c, c .before .before .before .before .before .shared-slice-known .given 15)
+few c = omega (arith, counted c, after-shared-slice-known c .shared-slice-known .given 15)
 
 reception-operands-requires : tie.Need-reception-operands-requires
 reception-operands-requires c κs = search needs
@@ -31,10 +40,10 @@ gather-requires : tie.Need-gather-requires
 gather-requires c κs = omega (arith, counted (c .before), few (c .before), start (c .before) .pre)
 
 array-share-prefix-body : tie.Need-array-share-prefix-body
-array-share-prefix-body c = omega (arith, few (c .before .before .before .before), c .before .before .gather .ensures, c .before .before .gather .kept)
+array-share-prefix-body c = omega (arith, few (after-reception-operands c), c .before .before .gather .ensures, c .before .before .gather .kept)
 
 slice-aggregate-receive : tie.Need-slice-aggregate-receive
-slice-aggregate-receive c = sym (length-take-le _ _ (omega (arith, few (c .before .before .before .before .before), c .before .before .before .gather .ensures, c .before .before .before .gather .kept)))
+slice-aggregate-receive c = sym (length-take-le _ _ (omega (arith, few (after-reception-operands (c .before)), after-gather c .gather .ensures, after-gather c .gather .kept)))
 
 receive-requires : tie.Need-receive-requires
 receive-requires c κs = search needs

@@ -5,6 +5,9 @@ use Rattle.console.proofs.Laws.{line-printed}
 use Rattle.console.proofs.session.append_bad.Statement.{statement}
 use Rattle.console.proofs.session.append_bad.Tie as tie
 
+abbrev after-with-room : tie.After-slice-known2 → tie.After-with-room
+after-with-room c = c .before .before .before .before .before
+
 with-room-requires : tie.Need-with-room-requires
 with-room-requires c κs = search needs
 
@@ -19,7 +22,7 @@ same-length c = search needs
 
 returns : tie.Need-returns
 returns c =
-    let room = c .before .before .before .before .before .with-room .ensures in
+    let room = after-with-room c .with-room .ensures in
     let put = c .before .before .append .ensures in
     (omega (arith, put .end, room .line), line-printed room put)
 

@@ -26,8 +26,32 @@ collecting-day-type c = c .before .before .before .before .before .before .befor
 abbrev start : tie.After-with-room → tie.Start
 start c = c .before .before .before .before .before .before .before .before .before .before .before .before .before
 
+abbrev start-of-after-shared-slice-known2 : tie.After-shared-slice-known2 → tie.Start
+start-of-after-shared-slice-known2 c = c .before .before .before .before .before .before .before .before .before
+
+abbrev else1 : tie.After-with-room → tie.Else1
+else1 c = c .before .before .before
+
+abbrev then1 : tie.After-slice-known8 → tie.Then1
+then1 c = c .before .before .before .before .before
+
+abbrev then2 : tie.After-slice-known9 → tie.Then2
+then2 c = c .before .before .before .before .before
+
+abbrev else3 : tie.After-ask-arg5 → tie.Else3
+else3 c = c .before .before .before .before .before
+
+abbrev then3 : tie.After-open-arg7 → tie.Then3
+then3 c = c .before .before .before .before .before .before .before
+
+abbrev after-ask : tie.After-slice-known18 → tie.After-ask
+after-ask c = c .before .before .before .before .before .before .before .before
+
+abbrev after-open : tie.After-slice-known14 → tie.After-open
+after-open c = c .before .before .before .before .before .before .before .before .before .before
+
 shared-slice-read-code : tie.Need-shared-slice-read-code
-shared-slice-read-code c = some-there _ (c .before .before .before .before .before .before .before .before .before .pre .0)
+shared-slice-read-code c = some-there _ (start-of-after-shared-slice-known2 c .pre .0)
 
 sub-append : tie.Need-sub-append
 sub-append c = search needs
@@ -49,7 +73,7 @@ same-length c = search needs
 
 returns : tie.Need-returns
 returns c =
-    let t = c .before .before .before .before .before in
+    let t = then1 c in
     let s = collecting t in
     let held = s .pre .1 .0 in
     let code = t .if1 .taken in
@@ -84,7 +108,7 @@ same-length-2 c = search needs
 
 returns-2 : tie.Need-returns-2
 returns-2 c =
-    let t = c .before .before .before .before .before in
+    let t = then2 c in
     let s = collecting-day-type t in
     let held = s .pre .1 .0 in
     let code = t .if2 .taken in
@@ -116,7 +140,7 @@ slice-aggregate-open-2 c = sym (length-take-le _ _ (start (c .before .before .be
 
 open-requires : tie.Need-open-requires
 open-requires c κs =
-    let t = c .before .before .before .before .before .before .before in
+    let t = then3 c in
     (opening-there _ (start (t .before) .pre .0) (t .if3 .taken), t .before .with-room .ensures .line)
 
 same-length-3 : tie.Need-same-length-3
@@ -142,13 +166,13 @@ same-length-9 c = search needs
 
 returns-3 : tie.Need-returns-3
 returns-3 c =
-    let t = c .before .before .before .before .before .before .before .before .before .before .before .before .before .before .before .before .before .before in
+    let t = then3 (after-open c .before) in
     let s = start (t .before) in
     let b = now (s .args .command) in
     let held = s .pre .1 .0 in
     let code = t .if3 .taken in
     let room = t .before .with-room .ensures in
-    let put = c .before .before .before .before .before .before .before .before .before .before .«open» .ensures in (
+    let put = after-open c .«open» .ensures in (
       record {
         line = held .line;
         waiting = omega (arith, put .1 .1, room .line);
@@ -160,9 +184,9 @@ returns-3 c =
 
 ask-requires : tie.Need-ask-requires
 ask-requires c κs =
-    let e = c .before .before .before .before .before in
+    let e = else3 c in
     let w = e .before in
-    ((start w .pre .0, w .with-room .ensures .line), (e .if3 .left, w .before .before .before .if1 .left, w .before .before .if2 .left))
+    ((start w .pre .0, w .with-room .ensures .line), (e .if3 .left, else1 w .if1 .left, w .before .before .if2 .left))
 
 same-length-10 : tie.Need-same-length-10
 same-length-10 c = search needs
@@ -181,16 +205,16 @@ same-length-14 c = search needs
 
 returns-4 : tie.Need-returns-4
 returns-4 c =
-    let e = c .before .before .before .before .before .before .before .before .before .before .before .before .before .before in
+    let e = else3 (after-ask c .before) in
     let w = e .before in
     let s = start w in
     let b = now (s .args .command) in
     let held = s .pre .1 .0 in
     let no-opening = e .if3 .left in
-    let no-category = w .before .before .before .if1 .left in
+    let no-category = else1 w .if1 .left in
     let no-day-type = w .before .before .if2 .left in
     let room = w .with-room .ensures in
-    let put = c .before .before .before .before .before .before .before .before .ask .ensures in (
+    let put = after-ask c .ask .ensures in (
       record {
         line = held .line;
         waiting = omega (arith, put .1 .1, room .line);

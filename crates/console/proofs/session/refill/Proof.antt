@@ -6,6 +6,9 @@ use borrow.Author.Needs.{needs}
 use Rattle.console.proofs.session.refill.Statement.{statement}
 use Rattle.console.proofs.session.refill.Tie as tie
 
+abbrev start : tie.After-write-all-arg → tie.Start
+start c = c .before .before .before .before .before .before .before .before
+
 sub-kept : tie.Need-sub-kept
 sub-kept c = search needs
 
@@ -16,7 +19,7 @@ slice-reshare-prefix-write-all : tie.Need-slice-reshare-prefix-write-all
 slice-reshare-prefix-write-all c = search needs
 
 slice-aggregate-write-all : tie.Need-slice-aggregate-write-all
-slice-aggregate-write-all c = sym (length-take-le _ _ (omega (arith, c .before .before .before .before .before .before .before .before .pre)))
+slice-aggregate-write-all c = sym (length-take-le _ _ (omega (arith, start c .pre)))
 
 write-all-requires : tie.Need-write-all-requires
 write-all-requires c κs = search needs

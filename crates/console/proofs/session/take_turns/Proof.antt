@@ -29,10 +29,22 @@ abbrev μ-loop : tie.MeasureT-loop
 abbrev head : tie.After-turn Inv-loop μ-loop → tie.In-loop Inv-loop μ-loop
 head c = c .before .before .before .before .before .before .before .before .before .before .before
 
+abbrev start : tie.After-slice-known8 Inv-loop μ-loop → tie.Start Inv-loop μ-loop
+start c = c .before .before .before .before .before .before .before .before
+
+abbrev at-loop : tie.After-write-all Inv-loop μ-loop → tie.At-loop Inv-loop μ-loop
+at-loop c = c .before .before .before
+
+abbrev at-loop-of-after-turn-arg8 : tie.After-turn-arg8 Inv-loop μ-loop → tie.At-loop Inv-loop μ-loop
+at-loop-of-after-turn-arg8 c = c .before .before .before .before .before .before .before .before .before .before .before
+
+abbrev after-turn : tie.After-slice-known16 Inv-loop μ-loop → tie.After-turn Inv-loop μ-loop
+after-turn c = c .before .before .before .before .before .before .before .before .before .before .before .before .before .before .before .before
+
 loop-holds : tie.Need-loop-holds Inv-loop μ-loop
 loop-holds c = (
   record { begun = search needs; block = search needs },
-  record { line = c .before .before .before .before .before .before .before .before .pre; waiting = search needs; categories = search needs; dayTypes = search needs },
+  record { line = start c .pre; waiting = search needs; categories = search needs; dayTypes = search needs },
   refl,
   refl,
   refl,
@@ -45,18 +57,18 @@ loop-holds c = (
 
 turn-requires : tie.Need-turn-requires Inv-loop μ-loop
 turn-requires c κs =
-    let inv = c .before .before .before .before .before .before .before .before .before .before .before .loop .inv in
+    let inv = at-loop-of-after-turn-arg8 c .loop .inv in
     (rw (inv .2) (inv .0), rw (inv .3, inv .4, inv .5) (inv .1))
 
 sub-turns : tie.Need-sub-turns Inv-loop μ-loop
-sub-turns c = omega (arith, head (c .before .before .before .before .before .before .before .before .before .before .before .before .before .before .before .before) .loop-test)
+sub-turns c = omega (arith, head (after-turn c) .loop-test)
 
 loop-less : tie.Need-loop-less Inv-loop μ-loop
-loop-less c = omega (arith, head (c .before .before .before .before .before .before .before .before .before .before .before .before .before .before .before .before) .loop-test)
+loop-less c = omega (arith, head (after-turn c) .loop-test)
 
 loop-again : tie.Need-loop-again Inv-loop μ-loop
 loop-again c =
-    let t = c .before .before .before .before .before .before .before .before .before .before .before .before .before .before .before .before in
+    let t = after-turn c in
     let inv = head t .before .loop .inv in
     let done = t .turn in (
       rw (inv .2) at (done .ensures .0),
@@ -81,28 +93,28 @@ write-all-requires : tie.Need-write-all-requires Inv-loop μ-loop
 write-all-requires c κs = search needs
 
 same-length : tie.Need-same-length Inv-loop μ-loop
-same-length c = c .before .before .before .loop .inv .2
+same-length c = at-loop c .loop .inv .2
 
 same-length-2 : tie.Need-same-length-2 Inv-loop μ-loop
-same-length-2 c = c .before .before .before .loop .inv .3
+same-length-2 c = at-loop c .loop .inv .3
 
 same-length-3 : tie.Need-same-length-3 Inv-loop μ-loop
-same-length-3 c = c .before .before .before .loop .inv .4
+same-length-3 c = at-loop c .loop .inv .4
 
 same-length-4 : tie.Need-same-length-4 Inv-loop μ-loop
-same-length-4 c = c .before .before .before .loop .inv .5
+same-length-4 c = at-loop c .loop .inv .5
 
 same-length-5 : tie.Need-same-length-5 Inv-loop μ-loop
-same-length-5 c = c .before .before .before .loop .inv .6
+same-length-5 c = at-loop c .loop .inv .6
 
 same-length-6 : tie.Need-same-length-6 Inv-loop μ-loop
-same-length-6 c = c .before .before .before .loop .inv .7
+same-length-6 c = at-loop c .loop .inv .7
 
 same-length-7 : tie.Need-same-length-7 Inv-loop μ-loop
-same-length-7 c = c .before .before .before .loop .inv .8
+same-length-7 c = at-loop c .loop .inv .8
 
 same-length-8 : tie.Need-same-length-8 Inv-loop μ-loop
-same-length-8 c = c .before .before .before .loop .inv .9
+same-length-8 c = at-loop c .loop .inv .9
 
 returns : tie.Need-returns Inv-loop μ-loop
 returns c = search needs

@@ -22,6 +22,21 @@ start c = c .before .before .before .before .before .before .before .before .bef
 abbrev begun : tie.After-found → tie.Start
 begun c = start (c .before .before)
 
+abbrev after-enum-told2 : tie.After-slice-known18 → tie.After-enum-told2
+after-enum-told2 c = c .before .before .before .before
+
+abbrev after-enum-told : tie.After-slice-known17 → tie.After-enum-told
+after-enum-told c = c .before .before .before .before .before .before .before
+
+abbrev after-found : tie.After-obey-arg8 → tie.After-found
+after-found c = c .before .before .before .before .before .before .before .before .before .before
+
+abbrev after-refill : tie.After-slice-known17 → tie.After-refill
+after-refill c = c .before .before .before .before
+
+abbrev after-obey : tie.After-slice-known15 → tie.After-obey
+after-obey c = c .before .before .before .before .before .before .before .before .before .before .before .before .before .before
+
 abbrev state : tie.Start → State
 state s =
     let a = s .args in
@@ -76,7 +91,7 @@ part-obey-end c = search needs
 
 obey-requires : tie.Need-obey-requires
 obey-requires c κs =
-    let f = c .before .before .before .before .before .before .before .before .before .before in
+    let f = after-found c in
     let held = begun f .pre .1 in
     let found = whole f in
     let a = begun f .args in
@@ -129,8 +144,8 @@ same-length-8 c = search needs
 
 returns : tie.Need-returns
 returns c =
-    let f = c .before .before .before .before .before .before .before .before .before .before .before .before .before .before .before .before .before .before .before .before .before .before .before .before .before in
-    let obeyed = c .before .before .before .before .before .before .before .before .before .before .before .before .before .before .obey .ensures in
+    let f = after-found (after-obey c .before) in
+    let obeyed = after-obey c .obey .ensures in
     let extent = sym (f .before .before .command-extent .ensures .0) ∙ f .found .given .1 in (
       record {
         begun = omega (arith, obeyed .1 .0, within f, begun f .pre .0 .begun);
@@ -147,10 +162,10 @@ same-length-10 c = search needs
 
 returns-2 : tie.Need-returns-2
 returns-2 c =
-    let e = c .before .before .before .before .before .before .before .before .before in
+    let e = after-enum-told c .before .before in
     let held = start e .pre .1 in
-    let filled = c .before .before .before .before .refill .ensures in
-    let extent = sym (e .command-extent .ensures .0) ∙ c .before .before .before .before .before .before .before .enum-told .given .1 in (
+    let filled = after-refill c .refill .ensures in
+    let extent = sym (e .command-extent .ensures .0) ∙ after-enum-told c .enum-told .given .1 in (
       filled .0 .0,
       (
         record {
@@ -171,11 +186,11 @@ same-length-12 c = search needs
 
 returns-3 : tie.Need-returns-3
 returns-3 c =
-    let e = c .before .before .before .before .before .before in
+    let e = after-enum-told2 c .before .before in
     let s = start e in
     let held = s .pre .1 in
     let put = c .before .before .append-bad .ensures in
-    let extent = sym (e .command-extent .ensures .0) ∙ c .before .before .before .before .enum-told2 .given .1 in (
+    let extent = sym (e .command-extent .ensures .0) ∙ after-enum-told2 c .enum-told2 .given .1 in (
       record { begun = s .pre .0 .begun; block = s .pre .0 .block },
       (
         record { line = held .line; waiting = put .0; categories = held .categories; dayTypes = held .dayTypes },

@@ -7,6 +7,9 @@ use borrow.Author.Needs.{needs}
 use Rattle.console.proofs.session.with_room.Statement.{statement}
 use Rattle.console.proofs.session.with_room.Tie as tie
 
+abbrev start : tie.After-write-all → tie.Start
+start c = c .before .before .before .before
+
 sub-if1 : tie.Need-sub-if1
 sub-if1 c = search needs
 
@@ -17,7 +20,7 @@ write-all-requires : tie.Need-write-all-requires
 write-all-requires c κs = search needs
 
 returns : tie.Need-returns
-returns c = record { written = true; place = refl; line = omega (arith, c .before .before .before .before .pre) }
+returns c = record { written = true; place = refl; line = omega (arith, start c .pre) }
 
 returns-2 : tie.Need-returns-2
 returns-2 c = record { written = false; place = refl; line = omega arith }

@@ -5,6 +5,12 @@ use Rattle.ledger.specs.Store.{entryOf}
 use Rattle.entries.proofs.cell.entry_of.Statement.{statement}
 use Rattle.entries.proofs.cell.entry_of.Tie as tie
 
+abbrev start : tie.After-struct-known2 → tie.Start
+start c = c .before .before .before
+
+abbrev after-number-of : tie.After-struct-known3 → tie.After-number-of
+after-number-of c = c .before .before .before
+
 number-of-requires : tie.Need-number-of-requires
 number-of-requires c κs = search needs
 
@@ -18,23 +24,23 @@ add-result c = record { fits = omega (arith, c .before .before .pre, c .before .
 
 mul-result-2 : tie.Need-mul-result-2
 unfolding entryOf
-mul-result-2 c = record { fits = omega (arith, c .before .before .before .pre) }
+mul-result-2 c = record { fits = omega (arith, start c .pre) }
 
 add-result-2 : tie.Need-add-result-2
 unfolding entryOf
-add-result-2 c = record { fits = omega (arith, c .before .before .before .pre, c .before .before .number-of .ensures) }
+add-result-2 c = record { fits = omega (arith, start c .pre, c .before .before .number-of .ensures) }
 
 mul-result-3 : tie.Need-mul-result-3
 unfolding entryOf
-mul-result-3 c = record { fits = omega (arith, c .before .before .before .before .pre) }
+mul-result-3 c = record { fits = omega (arith, start (c .before) .pre) }
 
 add-result-3 : tie.Need-add-result-3
 unfolding entryOf
-add-result-3 c = record { fits = omega (arith, c .before .before .before .before .pre, c .before .before .before .number-of .ensures) }
+add-result-3 c = record { fits = omega (arith, start (c .before) .pre, after-number-of c .number-of .ensures) }
 
 returns : tie.Need-returns
 unfolding entryOf
-returns c = rw (c .before .before .before .number-of .ensures)
+returns c = rw (after-number-of c .number-of .ensures)
 
 pub entry-of-spec : {M : Type 1} → statement M
 entry-of-spec =

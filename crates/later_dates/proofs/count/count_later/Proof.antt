@@ -25,6 +25,15 @@ head c = c .before .before .before
 abbrev start : tie.At-loop Inv-loop μ-loop → tie.Start Inv-loop μ-loop
 start c = c .before .before .before .before .before
 
+abbrev start-of-after-slice-known : tie.After-slice-known Inv-loop μ-loop → tie.Start Inv-loop μ-loop
+start-of-after-slice-known c = c .before .before .before
+
+abbrev after-count-step-of-then1 : tie.Then1 Inv-loop μ-loop → tie.After-count-step Inv-loop μ-loop
+after-count-step-of-then1 c = c .before .before .before
+
+abbrev after-count-step : tie.After-struct-known Inv-loop μ-loop → tie.After-count-step Inv-loop μ-loop
+after-count-step c = c .before .before .before .before
+
 -- the walk has come to the turn's date, and steps over it
 module _ (c : tie.After-count-step Inv-loop μ-loop) where
   in-range : head c .loop .d < datesOf (start (head c) .args .settings .now)
@@ -34,11 +43,11 @@ module _ (c : tie.After-count-step Inv-loop μ-loop) where
   room = walk-room _ _ _ _ _ _ _ _ _ _ _ (head c .loop .inv .2) in-range (c .count-step .ensures) (ready _ (start (head c) .pre .0 .0))
 
 date-count-requires : tie.Need-date-count-requires Inv-loop μ-loop
-date-count-requires c κs = header-there _ (c .before .before .before .pre .0 .0)
+date-count-requires c κs = header-there _ (start-of-after-slice-known c .pre .0 .0)
 
 loop-holds : tie.Need-loop-holds Inv-loop μ-loop
 loop-holds c =
-    let s = c .before .before .before .before in
+    let s = start-of-after-slice-known (c .before) in
     (c .date-count .ensures, refl, walk-start _ _ _ _ _ _ _ (s .pre .1 .0) (s .pre .1 .1))
 
 count-step-requires : tie.Need-count-step-requires Inv-loop μ-loop
@@ -53,25 +62,25 @@ count-step-requires c κs =
     )
 
 same-length : tie.Need-same-length Inv-loop μ-loop
-same-length c = let o = c .before .before .before in o .count-step .kept .1 .1 .1 .1 .0 ∙ head o .loop .inv .1
+same-length c = let o = after-count-step-of-then1 c in o .count-step .kept .1 .1 .1 .1 .0 ∙ head o .loop .inv .1
 
 returns : tie.Need-returns Inv-loop μ-loop
 returns c =
-    let o = c .before .before .before in
+    let o = after-count-step-of-then1 c in
     ap (λ (x : Ran). x .moved) (walk-stop _ _ _ _ _ _ _ _ _ _ _ (head o .loop .inv .2) (in-range o) (o .count-step .ensures) (c .if1 .taken))
 
 add-total : tie.Need-add-total Inv-loop μ-loop
-add-total c = omega (arith, room (c .before .before .before .before) .0)
+add-total c = omega (arith, room (after-count-step c) .0)
 
 add-d : tie.Need-add-d Inv-loop μ-loop
-add-d c = omega (arith, room (c .before .before .before .before) .1)
+add-d c = omega (arith, room (after-count-step c) .1)
 
 loop-less : tie.Need-loop-less Inv-loop μ-loop
-loop-less c = omega (arith, c .before .before .before .before .before .before .loop-test .taken)
+loop-less c = omega (arith, after-count-step c .before .before .loop-test .taken)
 
 loop-again : tie.Need-loop-again Inv-loop μ-loop
 loop-again c =
-    let o = c .before .before .before .before in
+    let o = after-count-step c in
     let l = head o .loop in (
       l .inv .0,
       o .count-step .kept .1 .1 .1 .1 .0 ∙ l .inv .1,

@@ -19,6 +19,9 @@ asked c = c .before .before
 abbrev start : tie.After-is-predecessor → tie.Start
 start c = c .before .before .before .before
 
+abbrev after-row-start : tie.After-followed → tie.After-row-start
+after-row-start c = c .before .before .before .before .before .before
+
 row : (c : tie.After-row-length) → let a = start (asked c) .args in a .date * rowLength (a .settings .now) + rowLength (a .settings .now) ≤ length (a .cells .now)
 row c = let s = start (asked c) in row-fits (s .args .settings .now) (s .args .cells .now) (s .args .date) (s .pre .1) (s .pre .2)
 
@@ -83,7 +86,7 @@ same-length c = search needs
 
 returns-2 : tie.Need-returns-2
 returns-2 c =
-    let r = c .before .before .before .before .before .before in
+    let r = after-row-start c in
     let o = asked (r .before) in
     let s = start o in
     let a = s .args in

@@ -22,6 +22,15 @@ abbrev μ-loop : tie.MeasureT-loop
 abbrev start : tie.At-loop Inv-loop μ-loop → tie.Start Inv-loop μ-loop
 start c = c .before .before .before .before .before .before
 
+abbrev start-of-after-slice-known : tie.After-slice-known Inv-loop μ-loop → tie.Start Inv-loop μ-loop
+start-of-after-slice-known c = c .before .before .before
+
+abbrev at-loop : tie.After-slice-known2 Inv-loop μ-loop → tie.At-loop Inv-loop μ-loop
+at-loop c = c .before .before .before .before .before .before .before .before
+
+abbrev in-loop : tie.After-row-start Inv-loop μ-loop → tie.In-loop Inv-loop μ-loop
+in-loop c = c .before .before .before
+
 -- the date before is one, and its row lies in the cells
 module _ (c : tie.In-loop Inv-loop μ-loop) where
   before : c .before .loop .d - 1 < datesOf (start (c .before) .args .settings .now)
@@ -32,17 +41,17 @@ module _ (c : tie.In-loop Inv-loop μ-loop) where
   fit = let s = start (c .before) in row-fits (s .args .settings .now) (s .args .cells .now) (c .before .loop .d - 1) (s .pre .0 .1) before
 
 -- where the code takes that row to start
-at : (c : tie.After-row-start Inv-loop μ-loop) → let h = c .before .before .before .before in
+at : (c : tie.After-row-start Inv-loop μ-loop) → let h = in-loop c .before in
     c .row-start .result ≡ (h .loop .d - 1) * rowLength (start h .args .settings .now)
 at c =
-    let l = c .before .before .before .before .loop in
+    let l = in-loop c .before .loop in
     c .row-start .ensures ∙ ap (λ (n : ℕ). (l .d - 1) * n) (l .inv .1)
 
 day-type-requires : tie.Need-day-type-requires Inv-loop μ-loop
-day-type-requires c κs = let s = c .before .before .before in (s .pre .0 .0, s .pre .1 .0 .0)
+day-type-requires c κs = let s = start-of-after-slice-known c in (s .pre .0 .0, s .pre .1 .0 .0)
 
 row-length-requires : tie.Need-row-length-requires Inv-loop μ-loop
-row-length-requires c κs = c .before .before .before .before .pre .0 .0
+row-length-requires c κs = start-of-after-slice-known (c .before) .pre .0 .0
 
 loop-holds : tie.Need-loop-holds Inv-loop μ-loop
 loop-holds c = (c .before .day-type .ensures, c .row-length .ensures, omega arith, refl, refl)
@@ -58,12 +67,12 @@ row-start-requires c κs = let i = c .before .before in rw (i .before .loop .inv
 
 carry-row-requires : tie.Need-carry-row-requires Inv-loop μ-loop
 carry-row-requires c κs =
-    let i = c .before .before .before .before in
+    let i = in-loop (c .before) in
     let l = i .before .loop in
     (within _ _ _ _ (at (c .before)) (l .inv .1) (fit i), wide _ _ (l .inv .1) (l .inv .3) (start (i .before) .pre .1 .0 .1))
 
 same-length : tie.Need-same-length Inv-loop μ-loop
-same-length c = c .before .before .carry-row .kept .1 .1 .1 .0 ∙ ap length (c .before .before .before .before .before .before .before .before .loop .inv .3)
+same-length c = c .before .before .carry-row .kept .1 .1 .1 .0 ∙ ap length (at-loop c .loop .inv .3)
 
 returns : tie.Need-returns Inv-loop μ-loop
 returns c =

@@ -26,20 +26,29 @@ head c = c .before .before .before .before
 abbrev start : tie.At-loop Inv-loop μ-loop → tie.Start Inv-loop μ-loop
 start c = c .before .before .before .before .before
 
+abbrev start-of-after-slice-known2 : tie.After-slice-known2 Inv-loop μ-loop → tie.Start Inv-loop μ-loop
+start-of-after-slice-known2 c = c .before .before .before
+
+abbrev in-loop : tie.After-write-step Inv-loop μ-loop → tie.In-loop Inv-loop μ-loop
+in-loop c = c .before .before .before
+
+abbrev after-write-step : tie.After-slice-known4 Inv-loop μ-loop → tie.After-write-step Inv-loop μ-loop
+after-write-step c = c .before .before .before .before
+
 -- the walk has come to the turn's date, and steps over it
 module _ (c : tie.After-write-step Inv-loop μ-loop) where
   in-range : head c .loop .d < datesOf (start (head c) .args .settings .now)
-  in-range = rw (← head c .loop .inv .0) (c .before .before .before .loop-test .taken)
+  in-range = rw (← head c .loop .inv .0) (in-loop c .loop-test .taken)
 
   room : (head c .loop .total + c .write-step .result .moved < 18446744073709551616) × (head c .loop .d + 1 < 18446744073709551616)
   room = walk-room _ _ _ _ _ _ _ _ _ _ _ (head c .loop .inv .3) in-range (c .write-step .ensures) (ready _ (start (head c) .pre .0 .0))
 
 date-count-requires : tie.Need-date-count-requires Inv-loop μ-loop
-date-count-requires c κs = header-there _ (c .before .before .before .pre .0 .0)
+date-count-requires c κs = header-there _ (start-of-after-slice-known2 c .pre .0 .0)
 
 loop-holds : tie.Need-loop-holds Inv-loop μ-loop
 loop-holds c =
-    let s = c .before .before .before .before in
+    let s = start-of-after-slice-known2 (c .before) in
     (c .date-count .ensures, refl, refl, walk-start _ _ _ _ _ _ _ (s .pre .1 .0) (s .pre .1 .1))
 
 write-step-requires : tie.Need-write-step-requires Inv-loop μ-loop
@@ -54,29 +63,29 @@ write-step-requires c κs =
     )
 
 same-length : tie.Need-same-length Inv-loop μ-loop
-same-length c = let o = c .before .before .before .before .before in o .write-step .kept .1 .0 ∙ head o .loop .inv .1
+same-length c = let o = after-write-step (c .before) in o .write-step .kept .1 .0 ∙ head o .loop .inv .1
 
 same-length-2 : tie.Need-same-length-2 Inv-loop μ-loop
-same-length-2 c = let o = c .before .before .before .before .before in o .write-step .kept .1 .1 .1 .1 .0 ∙ head o .loop .inv .2
+same-length-2 c = let o = after-write-step (c .before) in o .write-step .kept .1 .1 .1 .1 .0 ∙ head o .loop .inv .2
 
 returns : tie.Need-returns Inv-loop μ-loop
 returns c =
-    let o = c .before .before .before .before .before in
+    let o = after-write-step (c .before) in
     let done = walk-stop _ _ _ _ _ _ _ _ _ _ _ (head o .loop .inv .3) (in-range o) (o .write-step .ensures) (c .if1 .taken) in
     (ap (λ (x : Ran). x .cells) done, ap (λ (x : Ran). x .moved) done)
 
 add-total : tie.Need-add-total Inv-loop μ-loop
-add-total c = omega (arith, room (c .before .before .before .before .before .before) .0)
+add-total c = omega (arith, room (after-write-step (c .before .before)) .0)
 
 add-d : tie.Need-add-d Inv-loop μ-loop
-add-d c = omega (arith, room (c .before .before .before .before .before .before) .1)
+add-d c = omega (arith, room (after-write-step (c .before .before)) .1)
 
 loop-less : tie.Need-loop-less Inv-loop μ-loop
-loop-less c = omega (arith, c .before .before .before .before .before .before .before .before .before .loop-test .taken)
+loop-less c = omega (arith, in-loop (after-write-step (c .before .before)) .loop-test .taken)
 
 loop-again : tie.Need-loop-again Inv-loop μ-loop
 loop-again c =
-    let o = c .before .before .before .before .before .before in
+    let o = after-write-step (c .before .before) in
     let l = head o .loop in (
       l .inv .0,
       o .write-step .kept .1 .0 ∙ l .inv .1,

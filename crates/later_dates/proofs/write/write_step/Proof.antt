@@ -19,6 +19,12 @@ asked c = c .before .before
 abbrev start : tie.After-is-predecessor → tie.Start
 start c = c .before .before .before .before .before
 
+abbrev after-row-start : tie.After-follow-row → tie.After-row-start
+after-row-start c = c .before .before .before
+
+abbrev after-follow-row : tie.After-followed → tie.After-follow-row
+after-follow-row c = c .before .before .before .before .before
+
 row : (c : tie.After-row-length) → let a = start (asked c) .args in a .date * rowLength (a .settings .now) + rowLength (a .settings .now) ≤ length (a .cells .now)
 row c = let s = start (asked c) in row-fits (s .args .settings .now) (s .args .cells .now) (s .args .date) (s .pre .1) (s .pre .2)
 
@@ -89,12 +95,12 @@ same-length-3 c = search needs
 
 returns-2 : tie.Need-returns-2
 returns-2 c =
-    let r = c .before .before .before .before .before .before .before .before in
+    let r = after-row-start (after-follow-row c) in
     let o = asked (r .before) in
     let s = start o in
     let a = s .args in
     let S = a .settings .now in
-    let e = c .before .before .before .before .before .follow-row .ensures in
+    let e = after-follow-row c .follow-row .ensures in
     stepped-as
     (step-written S (a .day) (a .date) (a .inherited .now) (a .cells .now) (s .pre .2)
     (sym (o .is-predecessor .ensures) ∙ not-false _ (r .before .before .if1 .left))

@@ -7,6 +7,9 @@ use Rattle.net.specs.Sides.{pairedWith}
 use Rattle.net.proofs.checks.pair_number.Statement.{statement}
 use Rattle.net.proofs.checks.pair_number.Tie as tie
 
+abbrev start : tie.After-first-failed → tie.Start
+start c = c .before .before .before .before .before
+
 partner-number-requires : tie.Need-partner-number-requires
 partner-number-requires c κs = search needs
 
@@ -18,7 +21,7 @@ first-failed-requires c κs = search needs
 
 returns : tie.Need-returns
 returns c =
-    let a = c .before .before .before .before .before .args in
+    let a = start c .args in
     first-number (not (pairedWith (now (a .settings)) (a .category) (a .exports))) 25 (c .before .before .partner-number .ensures) (c .before .run-number .ensures) (c .first-failed .ensures)
 
 pub pair-number-spec : {M : Type 1} → statement M

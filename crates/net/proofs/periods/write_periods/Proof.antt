@@ -35,6 +35,15 @@ turn c = c .before .before
 abbrev sums : tie.After-struct-known2 Inv-loop μ-loop → tie.After-side-sum2 Inv-loop μ-loop
 sums c = c .before .before .before .before .before .before .before .before .before
 
+abbrev after-side-sum2 : tie.After-put-mark-arg Inv-loop μ-loop → tie.After-side-sum2 Inv-loop μ-loop
+after-side-sum2 c = c .before .before .before .before
+
+abbrev after-put-net : tie.After-struct-known Inv-loop μ-loop → tie.After-put-net Inv-loop μ-loop
+after-put-net c = c .before .before .before .before .before .before
+
+abbrev after-put-mark : tie.After-struct-known2 Inv-loop μ-loop → tie.After-put-mark Inv-loop μ-loop
+after-put-mark c = c .before .before .before .before
+
 loop-holds : tie.Need-loop-holds Inv-loop μ-loop
 loop-holds c = (omega arith, sym (filling-zero _ _), sym (filling-zero _ _), none-yet _ _, none-yet _ _)
 
@@ -57,7 +66,7 @@ put-net-requires c κs =
 
 put-mark-requires : tie.Need-put-mark-requires Inv-loop μ-loop
 put-mark-requires c κs =
-    let s = c .before .before .before .before in
+    let s = after-side-sum2 c in
     let t = turn s in
     let loop = t .before .loop in
     let pre = start (t .before) .pre in (
@@ -68,7 +77,7 @@ put-mark-requires c κs =
 
 add-import : tie.Need-add-import Inv-loop μ-loop
 add-import c =
-    let s = c .before .before .before .before .before .before .before .before in
+    let s = after-put-net c .before .before in
     let t = turn s in
     let loop = t .before .loop in
     let pre = start (t .before) .pre in
@@ -98,9 +107,9 @@ loop-again c =
     let plus = s .before .side-sum .ensures in
     let minus = s .side-sum2 .ensures in (
       omega (arith, taken),
-      c .before .before .before .before .before .before .before .put-net .ensures
+      after-put-net (c .before) .put-net .ensures
           ∙ fill _ _ (loop .numbers) (loop .k) _ (loop .inv .1) (omega (arith, taken, pre .3)) (ap₂ (λ x y. pos x -ℤ pos y) (plus .values .is) (minus .values .is)),
-      c .before .before .before .before .put-mark .ensures
+      after-put-mark c .put-mark .ensures
           ∙ fill _ _ (loop .marks) (loop .k) _ (loop .inv .2) (omega (arith, taken, pre .4)) (ap₂ (λ x y. cond (eqb (x + y) 0) 0 1) (plus .blank .is) (minus .blank .is)),
       one-more (loop .inv .3) (as-figure (plus .values) (pre .1 .few)),
       one-more (loop .inv .4) (as-figure (minus .values) (pre .2 .few)),

@@ -18,6 +18,12 @@ Inv-loop settings all-groups quantity category found₀ categories count₀ b₀
 abbrev μ-loop : tie.MeasureT-loop
 μ-loop settings all-groups quantity category found₀ categories count₀ b₀ found count b = categories - b
 
+abbrev start-place : tie.At-loop Inv-loop μ-loop → tie.Start Inv-loop μ-loop
+start-place c = c .before .before .before
+
+abbrev at-loop : tie.After-with-member-arg Inv-loop μ-loop → tie.At-loop Inv-loop μ-loop
+at-loop c = c .before .before .before
+
 category-count-requires : tie.Need-category-count-requires Inv-loop μ-loop
 category-count-requires c κs = let k = ready _ (c .before .pre .0) in omega arith
 
@@ -26,13 +32,13 @@ loop-holds c = (omega arith, found-none _ _ (c .before .before .pre .2))
 
 on-side-requires : tie.Need-on-side-requires Inv-loop μ-loop
 on-side-requires c κs =
-    let start = c .before .before .before .before in
+    let start = start-place (c .before) in
     (start .pre .0, start .pre .1, rw (← c .before .before .category-count .ensures) (c .loop-test .taken))
 
 with-member-requires : tie.Need-with-member-requires Inv-loop μ-loop
 with-member-requires c κs =
-    let loop = c .before .before .before in
-    let k = ready _ (loop .before .before .before .pre .0) in
+    let loop = at-loop c in
+    let k = ready _ (start-place loop .pre .0) in
     let few = found-few _ _ (loop .loop .inv .1) in
     (omega (arith, loop .before .category-count .ensures), loop .loop .inv .1 .long)
 
@@ -44,7 +50,7 @@ loop-less c = omega arith
 
 loop-again : tie.Need-loop-again Inv-loop μ-loop
 loop-again c =
-    let loop = c .before .before .before .before in
+    let loop = at-loop (c .before) in
     (omega arith, found-next _ _ _ _ _ _ _ (loop .loop .inv .1) (c .before .before .on-side .ensures) (c .with-member .ensures))
 
 returns : tie.Need-returns Inv-loop μ-loop

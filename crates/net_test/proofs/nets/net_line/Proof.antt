@@ -5,17 +5,20 @@ use lib.Seq.{length-take-le}
 use Rattle.net_test.proofs.nets.net_line.Statement.{statement}
 use Rattle.net_test.proofs.nets.net_line.Tie as tie
 
+abbrev start : tie.After-numbers → tie.Start
+start c = c .before .before .before
+
 array-borrow-prefix-numbers : tie.Need-array-borrow-prefix-numbers
 array-borrow-prefix-numbers c = search needs
 
 slice-aggregate-read-net : tie.Need-slice-aggregate-read-net
-slice-aggregate-read-net c = sym (length-take-le _ _ (c .before .before .before .pre .0))
+slice-aggregate-read-net c = sym (length-take-le _ _ (start c .pre .0))
 
 array-borrow-prefix-marks : tie.Need-array-borrow-prefix-marks
 array-borrow-prefix-marks c = search needs
 
 slice-aggregate-read-net-2 : tie.Need-slice-aggregate-read-net-2
-slice-aggregate-read-net-2 c = sym (length-take-le _ _ (c .before .before .before .before .pre .1))
+slice-aggregate-read-net-2 c = sym (length-take-le _ _ (start (c .before) .pre .1))
 
 read-net-requires : tie.Need-read-net-requires
 read-net-requires c κs = tt

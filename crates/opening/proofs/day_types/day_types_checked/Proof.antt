@@ -16,6 +16,12 @@ Inv-loop day-types i₀ i = (i ≤ length day-types) × (firstFailed (dayTypeNum
 abbrev μ-loop : tie.MeasureT-loop
 μ-loop day-types i₀ i = length day-types - i
 
+abbrev at-loop : tie.Else1 Inv-loop μ-loop → tie.At-loop Inv-loop μ-loop
+at-loop c = c .before .before .before
+
+abbrev at-loop-of-then1 : tie.Then1 Inv-loop μ-loop → tie.At-loop Inv-loop μ-loop
+at-loop-of-then1 c = c .before .before .before
+
 loop-holds : tie.Need-loop-holds Inv-loop μ-loop
 loop-holds c = (omega arith, rw sub-zero)
 
@@ -26,7 +32,7 @@ add-t6 : tie.Need-add-t6 Inv-loop μ-loop
 add-t6 c = omega arith
 
 returns : tie.Need-returns Inv-loop μ-loop
-returns c = let l = c .before .before .before .loop in
+returns c = let l = at-loop-of-then1 c .loop in
     failing _ _ (l .i) _ _ (c .before .before .loop-test .taken) (c .before .day-type-number .ensures) (c .if1 .taken) (l .inv .1)
 
 add-i : tie.Need-add-i Inv-loop μ-loop
@@ -36,7 +42,7 @@ loop-less : tie.Need-loop-less Inv-loop μ-loop
 loop-less c = omega arith
 
 loop-again : tie.Need-loop-again Inv-loop μ-loop
-loop-again c = let l = c .before .before .before .loop in
+loop-again c = let l = at-loop c .loop in
     (omega arith, passing _ _ (l .i) _ _ (c .before .before .loop-test .taken) (c .before .day-type-number .ensures) (c .if1 .left) (l .inv .1))
 
 returns-2 : tie.Need-returns-2 Inv-loop μ-loop

@@ -6,6 +6,9 @@ use borrow.Author.Needs.{needs}
 use Rattle.output.proofs.append.append.Statement.{statement}
 use Rattle.output.proofs.append.append.Tie as tie
 
+abbrev start : tie.After-slice-known2 → tie.Start
+start c = c .before .before .before .before .before .before
+
 sub-copy : tie.Need-sub-copy
 sub-copy c = search needs
 
@@ -26,7 +29,7 @@ same-length c = search needs
 
 returns : tie.Need-returns
 returns c =
-    let a = c .before .before .before .before .before .before .args in
+    let a = start c .args in
     let copied = c .before .before .copy .ensures in
     part-appended (now (a .out)) (now (a .text)) _ _ (a .at) _ (omega arith) (copied .0) (copied .1) _
 

@@ -9,6 +9,15 @@ use borrow.Author.Needs.{needs}
 use Rattle.output.proofs.append.append_energy.Statement.{statement}
 use Rattle.output.proofs.append.append_energy.Tie as tie
 
+abbrev start : tie.After-append-byte → tie.Start
+start c = c .before .before .before .before .before .before .before
+
+abbrev after-append-number : tie.After-append-byte → tie.After-append-number
+after-append-number c = c .before .before .before .before
+
+abbrev after-append-byte : tie.After-slice-known4 → tie.After-append-byte
+after-append-byte c = c .before .before .before .before .before .before
+
 append-number-requires : tie.Need-append-number-requires
 append-number-requires c κs = search needs
 
@@ -24,13 +33,13 @@ same-length c = search needs
 returns : tie.Need-returns
 unfolding energyText
 returns c =
-    let a = c .before .before .before .before .before .before .before .before .before .before .before .before .before .args in
-    let written = join (c .before .before .before .before .before .before .before .before .before .before .append-number .ensures .0) (join (c .before .before .before .before .before .before .append-byte .ensures) (c .before .before .append-thousandths .ensures)) in
-    let fits : a .energy < 18446744073709551616 = omega (arith, c .before .before .before .before .before .before .before .before .before .before .before .before .before .fits .energy) in (
+    let a = start (after-append-byte c) .args in
+    let written = join (after-append-number (after-append-byte c) .append-number .ensures .0) (join (after-append-byte c .append-byte .ensures) (c .before .before .append-thousandths .ensures)) in
+    let fits : a .energy < 18446744073709551616 = omega (arith, start (after-append-byte c) .fits .energy) in (
       written,
       (
         ap readBack (behind-blank (now (a .out)) _ (a .at) _ (energyText (a .energy)) (omega arith) written) ∙ energy-reads-back (a .energy) fits,
-        omega (arith, c .before .before .before .before .before .before .before .before .before .before .append-number .ensures .1, c .before .before .before .before .before .before .append-byte .ensures .end, c .before .before .append-thousandths .ensures .end),
+        omega (arith, after-append-number (after-append-byte c) .append-number .ensures .1, after-append-byte c .append-byte .ensures .end, c .before .before .append-thousandths .ensures .end),
       ),
     )
 

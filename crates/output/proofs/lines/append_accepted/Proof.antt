@@ -4,6 +4,9 @@ use borrow.Author.Needs.{needs}
 use Rattle.output.proofs.lines.append_accepted.Statement.{statement}
 use Rattle.output.proofs.lines.append_accepted.Tie as tie
 
+abbrev after-append-command : tie.After-slice-known3 → tie.After-append-command
+after-append-command c = c .before .before .before .before .before .before .before
+
 append-command-requires : tie.Need-append-command-requires
 append-command-requires c κs = search needs
 
@@ -18,7 +21,7 @@ same-length c = search needs
 
 returns : tie.Need-returns
 returns c =
-    join (c .before .before .before .before .before .before .before .append-command .ensures) (c .before .before .append .ensures)
+    join (after-append-command c .append-command .ensures) (c .before .before .append .ensures)
 
 pub append-accepted-spec : {M : Type 1} → statement M
 append-accepted-spec =

@@ -5,6 +5,12 @@ use borrow.Author.Needs.{needs}
 use Rattle.output.proofs.lines.append_energies.Statement.{statement}
 use Rattle.output.proofs.lines.append_energies.Tie as tie
 
+abbrev after-append-energy : tie.After-append-energy2 → tie.After-append-energy
+after-append-energy c = c .before .before .before .before
+
+abbrev after-append-energy2 : tie.After-slice-known4 → tie.After-append-energy2
+after-append-energy2 c = c .before .before .before .before .before .before
+
 append-energy-requires : tie.Need-append-energy-requires
 append-energy-requires c κs = search needs
 
@@ -19,7 +25,7 @@ same-length c = search needs
 
 returns : tie.Need-returns
 returns c =
-    (join (c .before .before .before .before .before .before .before .before .before .before .append-energy .ensures .0) (join (c .before .before .before .before .before .before .append-energy2 .ensures .0) (c .before .before .append-energy3 .ensures .0)), omega arith)
+    (join (after-append-energy (after-append-energy2 c) .append-energy .ensures .0) (join (after-append-energy2 c .append-energy2 .ensures .0) (c .before .before .append-energy3 .ensures .0)), omega arith)
 
 pub append-energies-spec : {M : Type 1} → statement M
 append-energies-spec =

@@ -5,6 +5,15 @@ use borrow.Author.Needs.{needs}
 use Rattle.output.proofs.lines.append_fields.Statement.{statement}
 use Rattle.output.proofs.lines.append_fields.Tie as tie
 
+abbrev after-append : tie.After-slice-known5 → tie.After-append
+after-append c = c .before .before .before .before .before .before .before .before .before .before .before .before .before .before
+
+abbrev after-append-energy : tie.After-append-number → tie.After-append-energy
+after-append-energy c = c .before .before .before .before
+
+abbrev after-append-number : tie.After-slice-known5 → tie.After-append-number
+after-append-number c = c .before .before .before .before .before .before
+
 letter-requires : tie.Need-letter-requires
 letter-requires c κs = search needs
 
@@ -28,7 +37,7 @@ same-length c = search needs
 
 returns : tie.Need-returns
 returns c =
-    rw (← c .before .before .before .before .before .before .before .before .before .before .before .before .before .before .before .before .letter .ensures) (join (c .before .before .before .before .before .before .before .before .before .before .before .before .before .before .append .ensures) (join (c .before .before .before .before .before .before .before .before .before .before .append-energy .ensures .0) (join (c .before .before .before .before .before .before .append-number .ensures .0) (c .before .before .append-origin .ensures .0))), omega arith)
+    rw (← after-append c .before .before .letter .ensures) (join (after-append c .append .ensures) (join (after-append-energy (after-append-number c) .append-energy .ensures .0) (join (after-append-number c .append-number .ensures .0) (c .before .before .append-origin .ensures .0))), omega arith)
 
 pub append-fields-spec : {M : Type 1} → statement M
 append-fields-spec =

@@ -5,6 +5,24 @@ use borrow.Author.Needs.{needs}
 use Rattle.output.proofs.lines.append_figures.Statement.{statement}
 use Rattle.output.proofs.lines.append_figures.Tie as tie
 
+abbrev after-append-energies : tie.After-append-energies2 → tie.After-append-energies
+after-append-energies c = c .before .before .before .before
+
+abbrev after-append-energies2 : tie.After-append-number → tie.After-append-energies2
+after-append-energies2 c = c .before .before .before .before
+
+abbrev after-append-number : tie.After-append-energy → tie.After-append-number
+after-append-number c = c .before .before .before .before
+
+abbrev after-append-energy : tie.After-slice-known8 → tie.After-append-energy
+after-append-energy c = c .before .before .before .before .before .before .before .before .before .before .before .before .before .before
+
+abbrev after-append-number2 : tie.After-append-number3 → tie.After-append-number2
+after-append-number2 c = c .before .before .before .before
+
+abbrev after-append-number3 : tie.After-slice-known8 → tie.After-append-number3
+after-append-number3 c = c .before .before .before .before .before .before
+
 append-energies-requires : tie.Need-append-energies-requires
 append-energies-requires c κs = search needs
 
@@ -31,7 +49,7 @@ same-length c = search needs
 
 returns : tie.Need-returns
 returns c =
-    (join (c .before .before .before .before .before .before .before .before .before .before .before .before .before .before .before .before .before .before .before .before .before .before .before .before .before .before .append-energies .ensures .0) (join (c .before .before .before .before .before .before .before .before .before .before .before .before .before .before .before .before .before .before .before .before .before .before .append-energies2 .ensures .0) (join (c .before .before .before .before .before .before .before .before .before .before .before .before .before .before .before .before .before .before .append-number .ensures .0) (join (c .before .before .before .before .before .before .before .before .before .before .before .before .before .before .append-energy .ensures .0) (join (c .before .before .before .before .before .before .before .before .before .before .append-number2 .ensures .0) (join (c .before .before .before .before .before .before .append-number3 .ensures .0) (c .before .before .append-number4 .ensures .0)))))), omega arith)
+    (join (after-append-energies (after-append-energies2 (after-append-number (after-append-energy c))) .append-energies .ensures .0) (join (after-append-energies2 (after-append-number (after-append-energy c)) .append-energies2 .ensures .0) (join (after-append-number (after-append-energy c) .append-number .ensures .0) (join (after-append-energy c .append-energy .ensures .0) (join (after-append-number2 (after-append-number3 c) .append-number2 .ensures .0) (join (after-append-number3 c .append-number3 .ensures .0) (c .before .before .append-number4 .ensures .0)))))), omega arith)
 
 pub append-figures-spec : {M : Type 1} → statement M
 append-figures-spec =

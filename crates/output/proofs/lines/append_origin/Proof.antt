@@ -5,6 +5,12 @@ use borrow.Author.Needs.{needs}
 use Rattle.output.proofs.lines.append_origin.Statement.{statement}
 use Rattle.output.proofs.lines.append_origin.Tie as tie
 
+abbrev else1 : tie.After-slice-known3 → tie.Else1
+else1 c = c .before .before .before .before
+
+abbrev then1 : tie.After-slice-known2 → tie.Then1
+then1 c = c .before .before .before .before .before
+
 slice-aggregate-append : tie.Need-slice-aggregate-append
 slice-aggregate-append c = search needs
 
@@ -16,7 +22,7 @@ same-length c = search needs
 
 returns : tie.Need-returns
 returns c =
-    rw (eq-eqb _ _ (c .before .before .before .before .before .if1 .taken)) (c .before .before .append .ensures, omega arith)
+    rw (eq-eqb _ _ (then1 c .if1 .taken)) (c .before .before .append .ensures, omega arith)
 
 append-number-requires : tie.Need-append-number-requires
 append-number-requires c κs = search needs
@@ -26,7 +32,7 @@ same-length-2 c = search needs
 
 returns-2 : tie.Need-returns-2
 returns-2 c =
-    rw (ne-eqb _ _ (c .before .before .before .before .if1 .left)) (c .before .before .append-number .ensures .0, omega arith)
+    rw (ne-eqb _ _ (else1 c .if1 .left)) (c .before .before .append-number .ensures .0, omega arith)
 
 pub append-origin-spec : {M : Type 1} → statement M
 append-origin-spec =

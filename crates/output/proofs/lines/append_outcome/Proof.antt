@@ -6,6 +6,12 @@ use borrow.Author.Needs.{needs}
 use Rattle.output.proofs.lines.append_outcome.Statement.{statement}
 use Rattle.output.proofs.lines.append_outcome.Tie as tie
 
+abbrev after-outcome : tie.After-slice-known4 → tie.After-outcome
+after-outcome c = c .before .before .before .before .before
+
+abbrev after-append-accepted : tie.After-slice-known3 → tie.After-append-accepted
+after-append-accepted c = c .before .before .before .before .before .before
+
 enum-told : tie.Need-enum-told
 enum-told c = search needs
 
@@ -27,7 +33,7 @@ same-length c = search needs
 returns : tie.Need-returns
 unfolding answerLine
 returns c =
-    rw (c .before .before .before .before .before .before .before .before .enum-told .given .1) (join (c .before .before .before .before .before .before .append-accepted .ensures) (c .before .before .append-byte .ensures), omega arith)
+    rw (after-append-accepted c .before .before .enum-told .given .1) (join (after-append-accepted c .append-accepted .ensures) (c .before .before .append-byte .ensures), omega arith)
 
 same-length-2 : tie.Need-same-length-2
 same-length-2 c = search needs
@@ -35,7 +41,7 @@ same-length-2 c = search needs
 returns-2 : tie.Need-returns-2
 unfolding answerLine
 returns-2 c =
-    rw (c .before .before .before .before .before .outcome .given .1) (c .before .before .append-refused .ensures .0, omega arith)
+    rw (after-outcome c .outcome .given .1) (c .before .before .append-refused .ensures .0, omega arith)
 
 pub append-outcome-spec : {M : Type 1} → statement M
 append-outcome-spec =

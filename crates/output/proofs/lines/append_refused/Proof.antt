@@ -5,6 +5,18 @@ use borrow.Author.Needs.{needs}
 use Rattle.output.proofs.lines.append_refused.Statement.{statement}
 use Rattle.output.proofs.lines.append_refused.Tie as tie
 
+abbrev after-append-command : tie.After-append → tie.After-append-command
+after-append-command c = c .before .before .before .before .before
+
+abbrev after-append : tie.After-append-number → tie.After-append
+after-append c = c .before .before .before .before
+
+abbrev after-append-number : tie.After-slice-known6 → tie.After-append-number
+after-append-number c = c .before .before .before .before .before .before .before .before .before .before
+
+abbrev after-append-number2 : tie.After-slice-known6 → tie.After-append-number2
+after-append-number2 c = c .before .before .before .before .before .before
+
 append-command-requires : tie.Need-append-command-requires
 append-command-requires c κs = search needs
 
@@ -28,7 +40,7 @@ same-length c = search needs
 
 returns : tie.Need-returns
 returns c =
-    (join (c .before .before .before .before .before .before .before .before .before .before .before .before .before .before .before .before .before .before .before .append-command .ensures) (join (c .before .before .before .before .before .before .before .before .before .before .before .before .before .before .append .ensures) (join (c .before .before .before .before .before .before .before .before .before .before .append-number .ensures .0) (join (c .before .before .before .before .before .before .append-number2 .ensures .0) (c .before .before .append-byte .ensures)))), omega arith)
+    (join (after-append-command (after-append (after-append-number c)) .append-command .ensures) (join (after-append (after-append-number c) .append .ensures) (join (after-append-number c .append-number .ensures .0) (join (after-append-number2 c .append-number2 .ensures .0) (c .before .before .append-byte .ensures)))), omega arith)
 
 pub append-refused-spec : {M : Type 1} → statement M
 append-refused-spec =

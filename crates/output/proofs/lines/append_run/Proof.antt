@@ -6,6 +6,18 @@ use borrow.Author.Needs.{needs}
 use Rattle.output.proofs.lines.append_run.Statement.{statement}
 use Rattle.output.proofs.lines.append_run.Tie as tie
 
+abbrev after-outcome : tie.After-append-accepted → tie.After-outcome
+after-outcome c = c .before .before .before
+
+abbrev after-outcome2 : tie.After-slice-known5 → tie.After-outcome2
+after-outcome2 c = c .before .before .before .before .before
+
+abbrev after-append-accepted : tie.After-append-number → tie.After-append-accepted
+after-append-accepted c = c .before .before .before .before
+
+abbrev after-append-number : tie.After-slice-known4 → tie.After-append-number
+after-append-number c = c .before .before .before .before .before .before
+
 enum-known-outcome : tie.Need-enum-known-outcome
 enum-known-outcome c = search needs
 
@@ -30,7 +42,7 @@ same-length c = search needs
 returns : tie.Need-returns
 unfolding answerLine
 returns c =
-    rw (c .before .before .before .before .before .before .before .before .before .before .before .before .before .outcome .given .1) (join (c .before .before .before .before .before .before .before .before .before .before .append-accepted .ensures) (join (c .before .before .before .before .before .before .append-number .ensures .0) (c .before .before .append-byte .ensures)), omega arith)
+    rw (after-outcome (after-append-accepted (after-append-number c)) .outcome .given .1) (join (after-append-accepted (after-append-number c) .append-accepted .ensures) (join (after-append-number c .append-number .ensures .0) (c .before .before .append-byte .ensures)), omega arith)
 
 same-length-2 : tie.Need-same-length-2
 same-length-2 c = search needs
@@ -38,7 +50,7 @@ same-length-2 c = search needs
 returns-2 : tie.Need-returns-2
 unfolding answerLine
 returns-2 c =
-    rw (c .before .before .before .before .before .outcome2 .given .1) (c .before .before .append-refused .ensures .0, omega arith)
+    rw (after-outcome2 c .outcome2 .given .1) (c .before .before .append-refused .ensures .0, omega arith)
 
 pub append-run-spec : {M : Type 1} → statement M
 append-run-spec =

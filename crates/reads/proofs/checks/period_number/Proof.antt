@@ -7,6 +7,12 @@ use Rattle.ledger.specs.Ready.{ready}
 use Rattle.reads.proofs.checks.period_number.Statement.{statement}
 use Rattle.reads.proofs.checks.period_number.Tie as tie
 
+abbrev else1 : tie.Else2 → tie.Else1
+else1 c = c .before .before .before
+
+abbrev else1-of-then2 : tie.Then2 → tie.Else1
+else1-of-then2 c = c .before .before .before
+
 category-count-requires : tie.Need-category-count-requires
 category-count-requires c κs = let k = ready _ (c .before .pre) in omega arith
 
@@ -23,7 +29,7 @@ between-requires c κs = search needs
 returns-2 : tie.Need-returns-2
 unfolding cellInRange
 returns-2 c =
-    let b = c .before .before .before in
+    let b = else1-of-then2 c in
     rw (
       ← b .before .category-count .ensures,
       lt-ltb _ _ (b .if1 .left),
@@ -35,7 +41,7 @@ returns-2 c =
 returns-3 : tie.Need-returns-3
 unfolding cellInRange
 returns-3 c =
-    let b = c .before .before .before in
+    let b = else1 c in
     rw (
       ← b .before .category-count .ensures,
       lt-ltb _ _ (b .if1 .left),

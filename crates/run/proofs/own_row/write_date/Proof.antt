@@ -17,6 +17,9 @@ use Rattle.run.proofs.own_row.write_date.Tie as tie
 abbrev start : tie.After-row-length → tie.Start
 start c = c .before .before .before .before .before .before
 
+abbrev after-row-start : tie.After-slice-known2 → tie.After-row-start
+after-row-start c = c .before .before .before .before
+
 module _ (c : tie.After-row-start) where
   -- the row's start and width as the code has them
   starts : c .row-start .result ≡ start (c .before) .args .date * rowLength (start (c .before) .args .settings .now)
@@ -77,7 +80,7 @@ same-length c = search needs
 returns : tie.Need-returns
 unfolding movedByRow
 returns c =
-    let r = c .before .before .before .before in
+    let r = after-row-start c in
     let a = start (r .before) .args in
     let n : ℕ = rowLength (a .settings .now) in
     let e = c .before .before .write-row .ensures in (

@@ -17,6 +17,9 @@ start c = c .before .before .before .before .before .before
 abbrev tested : tie.After-category-start → tie.After-same-family
 tested c = c .before .before .before
 
+abbrev after-add-row : tie.After-add-row-arg2 → tie.After-add-row
+after-add-row c = c .before .before .before
+
 periods-are : (c : tie.After-category-start) → c .before .period-count .result ≡ periodsOf (start (tested c) .args .settings .now)
 periods-are c = c .before .period-count .ensures
 
@@ -54,7 +57,7 @@ add-row-requires c κs =
 
 add-row-requires-2 : tie.Need-add-row-requires-2
 add-row-requires-2 c κs =
-    let k = c .before .before .before .before .before in
+    let k = after-add-row c .before .before in
     let s = start (tested k) in
     let a = s .args in
     let S = a .settings .now in
@@ -70,7 +73,7 @@ same-length-2 c = search needs
 returns-2 : tie.Need-returns-2
 returns-2 c =
     let second = c .before .before in
-    let first = second .before .before .before .before in
+    let first = after-add-row (second .before) in
     let k = first .before .before in
     let s = start (tested k) in
     let a = s .args in

@@ -20,6 +20,15 @@ start c = pooled c .before .before .before .before .before .before .before .befo
 abbrev placed : tie.After-shape-row-arg → tie.After-category-start
 placed c = c .before .before .before .before .before
 
+abbrev start-of-after-family-counts : tie.After-family-counts → tie.Start
+start-of-after-family-counts c = c .before .before .before .before .before .before .before
+
+abbrev after-family-counts : tie.After-period-count → tie.After-family-counts
+after-family-counts c = c .before .before .before .before
+
+abbrev after-de-minimis : tie.After-shape-row → tie.After-de-minimis
+after-de-minimis c = c .before .before .before .before
+
 at-is : (c : tie.After-category-start) → c .category-start .result ≡ start c .args .category * periodsOf (start c .args .settings .now)
 at-is c = c .category-start .ensures ∙ ap (λ (n : ℕ). start c .args .category * n) (c .before .period-count .ensures)
 
@@ -31,7 +40,7 @@ slice-aggregate-pool-family-2 c = search needs
 
 pool-family-requires : tie.Need-pool-family-requires
 pool-family-requires c κs =
-    let s = c .before .before .before .before .before .before .before in
+    let s = start-of-after-family-counts c in
     let S = s .args .settings .now in
     let most = periods-bound S (ready S (s .pre .0 .0)) .1 in
     let none : (p : ℕ) → p < periodsOf S → getD {A = ℕ} (replicate 96 0) p 0 ≡ 0 = λ p l. getD-replicate 96 p 0 0 (omega arith) in (
@@ -44,7 +53,7 @@ period-count-requires c κs = search needs
 
 category-start-requires : tie.Need-category-start-requires
 category-start-requires c κs =
-    let s = c .before .before .before .before .before .before .before .before .before .before .before in
+    let s = start-of-after-family-counts (after-family-counts c) in
     let S = s .args .settings .now in
     start-asks S (s .args .category) _ (ready S (s .pre .0 .0)) (s .pre .1 .1 .1) (c .period-count .ensures)
 
@@ -95,7 +104,7 @@ returns c =
     let s = start k in
     let a = s .args in
     let family = pooled k .pool-family in
-    let minimum = wrote .before .before .before .before in
+    let minimum = after-de-minimis wrote in
     let gives = category-gives (a .settings .now) (a .sums .now) (a .counts .now) (a .inherited .now) (a .date) (a .category) _ _ _ _ _ _
     (minimum .before .is-smart .ensures) (minimum .de-minimis .ensures) (at-is k) (s .pre .1 .1 .3) (family .ensures .0) (family .ensures .1) in
     (wrote .shape-row .ensures .0 ∙ gives .0, wrote .shape-row .ensures .1 ∙ gives .1 _)

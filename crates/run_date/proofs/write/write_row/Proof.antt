@@ -30,6 +30,15 @@ start c = c .before .before .before .before .before .before .before .before .bef
 abbrev placed : tie.After-slice-known2 Inv-loop μ-loop → tie.After-category-start Inv-loop μ-loop
 placed c = c .before .before .before .before
 
+abbrev start-of-after-slice-known : tie.After-slice-known Inv-loop μ-loop → tie.Start Inv-loop μ-loop
+start-of-after-slice-known c = c .before .before .before .before .before
+
+abbrev after-slice-known : tie.After-loop Inv-loop μ-loop → tie.After-slice-known Inv-loop μ-loop
+after-slice-known c = c .before .before .before .before
+
+abbrev after-period-count : tie.After-category-start Inv-loop μ-loop → tie.After-period-count Inv-loop μ-loop
+after-period-count c = c .before .before .before
+
 -- the numbers of a turn: the category's stretch, as the code has it, lies in the row
 fit : (c : tie.In-loop Inv-loop μ-loop) →
     let S = start c .args .settings .now in
@@ -59,10 +68,10 @@ at-is : (c : tie.After-category-start Inv-loop μ-loop) →
 at-is c = let l = c .before .before .loop in c .category-start .ensures ∙ ap (λ (n : ℕ). l .category * n) (l .inv .1)
 
 category-count-requires : tie.Need-category-count-requires Inv-loop μ-loop
-category-count-requires c κs = header-there _ (c .before .before .before .before .before .pre .0 .0)
+category-count-requires c κs = header-there _ (start-of-after-slice-known c .pre .0 .0)
 
 period-count-requires : tie.Need-period-count-requires Inv-loop μ-loop
-period-count-requires c κs = c .before .before .before .before .before .before .pre .0 .0
+period-count-requires c κs = start-of-after-slice-known (c .before) .pre .0 .0
 
 loop-holds : tie.Need-loop-holds Inv-loop μ-loop
 loop-holds c = (c .before .category-count .ensures, c .period-count .ensures, omega arith, refl, row-start _ _ _, count-start _ _ _)
@@ -93,7 +102,7 @@ write-category-requires c κs =
     let s = start (k .before) in
     let l = k .before .before .loop in
     let f = fit (k .before) in
-    let n = k .before .before .before .period-count .result in
+    let n = after-period-count k .period-count .result in
     let at = k .category-start .result in (
       s .pre .0,
       (
@@ -136,7 +145,7 @@ loop-again c =
     let f = fit (k .before) in
     let call = c .before .before .write-category in
     let known = ready S (s .pre .0 .0) in
-    let n = k .before .before .before .period-count .result in
+    let n = after-period-count k .period-count .result in
     let at = k .category-start .result in
     let width : at + n - at ≡ periodsOf S = rw (← l .inv .1) (omega arith) in
     let stepped = row-step S (a .sums .now) (a .counts .now) (a .inherited .now) (a .date) (l .category) _ _ known (at-is k) width
@@ -155,7 +164,7 @@ same-length c = c .before .loop .inv .3
 
 returns : tie.Need-returns Inv-loop μ-loop
 returns c =
-    let s = c .before .before .before .before .before .before .before .before .before in
+    let s = start-of-after-slice-known (after-slice-known c) in
     let l = c .before .loop in
     let S = s .args .settings .now in
     let done : l .category ≡ categoriesOf S = omega (arith, l .inv .0, l .inv .2, c .loop-test .left) in

@@ -19,6 +19,12 @@ start c = c .before
 abbrev start-family : tie.After-enough2 → tie.Start
 start-family c = c .before .before .before .before
 
+abbrev after-enough : tie.After-own → tie.After-enough
+after-enough c = c .before .before .before
+
+abbrev after-enough2 : tie.After-pooled → tie.After-enough2
+after-enough2 c = c .before .before .before
+
 own-enough : (c : tie.Then1) → isEnough (start (c .before) .args .count) (start (c .before) .args .de-minimis) ≡ true
 own-enough c = sym (c .before .enough .ensures) ∙ c .if1 .taken
 
@@ -46,7 +52,7 @@ own-requires c κs = search needs
 
 entry-of-requires : tie.Need-entry-of-requires
 entry-of-requires c κs =
-    let s = start (c .before .before .before) in
+    let s = start (after-enough c) in
     rw (c .own .ensures)
     (shape-bound (ownCell (s .args .date) (c .before .average-up .result) (s .args .count))
     (small (s .args .sum) (s .args .count) _ _ (own-enough (c .before .before)) (s .pre .1 .0) (c .before .average-up .ensures))
@@ -55,7 +61,7 @@ entry-of-requires c κs =
 returns : tie.Need-returns
 unfolding freshOf
 returns c =
-    let s = start (c .before .before .before .before) in
+    let s = start (after-enough (c .before)) in
     rw (own-enough (c .before .before .before))
     (c .entry-of .ensures
     ∙ ap entryOf (c .before .own .ensures ∙ ap (λ (v : ℕ). ownCell (s .args .date) v (s .args .count)) (c .before .before .average-up .ensures)))
@@ -71,7 +77,7 @@ pooled-requires c κs = search needs
 
 entry-of-requires-2 : tie.Need-entry-of-requires-2
 entry-of-requires-2 c κs =
-    let s = start-family (c .before .before .before) in
+    let s = start-family (after-enough2 c) in
     rw (c .pooled .ensures)
     (shape-bound (pooledCell (s .args .date) (c .before .average-up2 .result) (s .args .family-count))
     (small (s .args .family-sum) (s .args .family-count) _ _ (family-enough (c .before .before)) (s .pre .1 .1) (c .before .average-up2 .ensures))
@@ -80,8 +86,8 @@ entry-of-requires-2 c κs =
 returns-2 : tie.Need-returns-2
 unfolding freshOf
 returns-2 c =
-    let smart = c .before .before .before .before .before in
-    let s = start-family (c .before .before .before .before) in
+    let smart = after-enough2 (c .before) .before in
+    let s = start-family (after-enough2 (c .before)) in
     rw (own-few (smart .before), smart .if2 .taken, family-enough (c .before .before .before))
     (c .entry-of2 .ensures
     ∙ ap entryOf (c .before .pooled .ensures ∙ ap (λ (v : ℕ). pooledCell (s .args .date) v (s .args .family-count)) (c .before .before .average-up2 .ensures)))

@@ -21,6 +21,15 @@ Inv-loop smart de-minimis date sums counts inherited at family-sums family-count
 abbrev μ-loop : tie.MeasureT-loop
 μ-loop smart de-minimis date sums counts inherited at family-sums family-counts row₀ moved₀ p₀ row moved p = length row₀ - p
 
+abbrev start : tie.At-loop Inv-loop μ-loop → tie.Start Inv-loop μ-loop
+start c = c .before .before .before .before .before .before .before
+
+abbrev at-loop : tie.After-shared-slice-known10 Inv-loop μ-loop → tie.At-loop Inv-loop μ-loop
+at-loop c = c .before .before .before .before .before .before .before
+
+abbrev after-shared-slice-known10 : tie.After-moved-entry Inv-loop μ-loop → tie.After-shared-slice-known10 Inv-loop μ-loop
+after-shared-slice-known10 c = c .before .before .before
+
 loop-holds : tie.Need-loop-holds Inv-loop μ-loop
 loop-holds c = (omega arith, refl, sym (filling-zero _ _), sym (differing-zero _ _))
 
@@ -65,8 +74,8 @@ shared-slice-read-shape-entry-5 c = omega arith
 
 shape-entry-requires : tie.Need-shape-entry-requires Inv-loop μ-loop
 shape-entry-requires c κs =
-    let s = c .before .before .before .before .before .before .before .before .before .before .before .before .before .before in
-    let p = c .before .before .before .before .before .before .before .loop .p in
+    let s = start (at-loop c) in
+    let p = at-loop c .loop .p in
     (s .pre .0 .0, (s .pre .1 .0 p (omega arith), s .pre .1 .1 p (omega arith)))
 
 compared-entry-requires : tie.Need-compared-entry-requires Inv-loop μ-loop
@@ -96,8 +105,8 @@ loop-less c = omega arith
 
 loop-again : tie.Need-loop-again Inv-loop μ-loop
 loop-again c =
-    let l = c .before .before .before .before .before .before .before .before .before .before .loop in
-    let s = c .before .before .before .before .before .before .before .before .before .before .before .before .before .before .before .before .before in
+    let l = at-loop (after-shared-slice-known10 c) .loop in
+    let s = start (at-loop (after-shared-slice-known10 c)) in
     let old : getD (l .row) (l .p) 0 ≡ getD (s .args .row .now) (l .p) 0 = unfilled _ _ (l .row) (l .p) (l .inv .2) (omega arith) in
     let new = c .before .before .shape-entry .ensures in (
       omega arith,
@@ -113,7 +122,7 @@ same-length c = omega arith
 returns : tie.Need-returns Inv-loop μ-loop
 returns c =
     let l = c .before .loop in
-    let done : l .p ≡ length (c .before .before .before .before .before .before .before .before .args .row .now) = omega arith in
+    let done : l .p ≡ length (start (c .before) .args .row .now) = omega arith in
     (filled-whole _ _ (l .row) (l .p) _ (l .inv .2) done refl, counted _ _ (l .p) _ (l .moved) (l .inv .3) done)
 
 pub shape-row-spec : {M : Type 1} → statement M

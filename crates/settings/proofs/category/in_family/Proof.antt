@@ -7,6 +7,12 @@ use Rattle.metering.specs.Laws.{test-failed, test-passed, agree, differ}
 use Rattle.settings.proofs.category.in_family.Statement.{statement}
 use Rattle.settings.proofs.category.in_family.Tie as tie
 
+abbrev else2 : tie.Else3 → tie.Else2
+else2 c = c .before .before .before
+
+abbrev else2-of-then3 : tie.Then3 → tie.Else2
+else2-of-then3 c = c .before .before .before
+
 is-smart-requires : tie.Need-is-smart-requires
 is-smart-requires c κs = search needs
 
@@ -32,7 +38,7 @@ category-byte-requires-2 c κs = search needs
 returns-3 : tie.Need-returns-3
 unfolding sameFamily isSmart categoryOf categoryAt
 returns-3 c =
-    let c2 = c .before .before .before in
+    let c2 = else2-of-then3 c in
     let c1 = c2 .before .before in
     rw (
       test-passed (c1 .before .is-smart .ensures) (c1 .if1 .left),
@@ -47,7 +53,7 @@ returns-4 : tie.Need-returns-4
 unfolding sameFamily isSmart categoryOf categoryAt
 returns-4 c =
     let c3 = c .before .before in
-    let c2 = c3 .before .before .before in
+    let c2 = else2 c3 in
     let c1 = c2 .before .before in
     rw (
       test-passed (c1 .before .is-smart .ensures) (c1 .if1 .left),
@@ -67,7 +73,7 @@ unfolding sameFamily isSmart categoryOf categoryAt
 returns-5 c =
     let c4 = c .before .before in
     let c3 = c4 .before .before in
-    let c2 = c3 .before .before .before in
+    let c2 = else2 c3 in
     let c1 = c2 .before .before in
     rw (
       test-passed (c1 .before .is-smart .ensures) (c1 .if1 .left),

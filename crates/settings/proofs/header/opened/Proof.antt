@@ -8,6 +8,18 @@ use Rattle.metering.specs.Laws.{test-failed, test-passed}
 use Rattle.settings.proofs.header.opened.Statement.{statement}
 use Rattle.settings.proofs.header.opened.Tie as tie
 
+abbrev else1 : tie.Else2 → tie.Else1
+else1 c = c .before .before .before
+
+abbrev else1-of-then2 : tie.Then2 → tie.Else1
+else1-of-then2 c = c .before .before .before
+
+abbrev else2 : tie.Else3 → tie.Else2
+else2 c = c .before .before .before
+
+abbrev else2-of-then3 : tie.Then3 → tie.Else2
+else2-of-then3 c = c .before .before .before
+
 duration-requires : tie.Need-duration-requires
 duration-requires c κs = search needs
 
@@ -27,7 +39,7 @@ meters-in-range-requires c κs = search needs
 returns-2 : tie.Need-returns-2
 unfolding isOpened
 returns-2 c =
-    let c1 = c .before .before .before in
+    let c1 = else1-of-then2 c in
     rw (
       test-passed (c1 .before .duration-known .ensures ∙ ap durationKnown (c1 .before .before .duration .ensures)) (c1 .if1 .left),
       test-failed (c .before .meters-in-range .ensures ∙ ap metersInRange (c .before .before .meter-count .ensures)) (c .if2 .taken),
@@ -42,8 +54,8 @@ categories-in-range-requires c κs = search needs
 returns-3 : tie.Need-returns-3
 unfolding isOpened
 returns-3 c =
-    let c2 = c .before .before .before in
-    let c1 = c2 .before .before .before in
+    let c2 = else2-of-then3 c in
+    let c1 = else1 c2 in
     rw (
       test-passed (c1 .before .duration-known .ensures ∙ ap durationKnown (c1 .before .before .duration .ensures)) (c1 .if1 .left),
       test-passed (c2 .before .meters-in-range .ensures ∙ ap metersInRange (c2 .before .before .meter-count .ensures)) (c2 .if2 .left),
@@ -60,8 +72,8 @@ returns-4 : tie.Need-returns-4
 unfolding isOpened
 returns-4 c =
     let c3 = c .before .before in
-    let c2 = c3 .before .before .before in
-    let c1 = c2 .before .before .before in
+    let c2 = else2 c3 in
+    let c1 = else1 c2 in
     rw (
       test-passed (c1 .before .duration-known .ensures ∙ ap durationKnown (c1 .before .before .duration .ensures)) (c1 .if1 .left),
       test-passed (c2 .before .meters-in-range .ensures ∙ ap metersInRange (c2 .before .before .meter-count .ensures)) (c2 .if2 .left),

@@ -8,6 +8,9 @@ use Rattle.settings.proofs.Laws.{opened-bounds, short-unready}
 use Rattle.settings.proofs.header.settings_ready.Statement.{statement}
 use Rattle.settings.proofs.header.settings_ready.Tie as tie
 
+abbrev after-opened : tie.After-date-count → tie.After-opened
+after-opened c = c .before .before .before
+
 returns : tie.Need-returns
 returns c = sym (short-unready _ (c .if1 .taken))
 
@@ -25,13 +28,13 @@ date-count-requires : tie.Need-date-count-requires
 date-count-requires c κs = search needs
 
 settings-length-requires : tie.Need-settings-length-requires
-settings-length-requires c κs = let b = opened-bounds _ (test-passed (c .before .before .before .opened .ensures) (c .before .before .if2 .left)) in omega arith
+settings-length-requires c κs = let b = opened-bounds _ (test-passed (after-opened c .opened .ensures) (c .before .before .if2 .left)) in omega arith
 
 returns-3 : tie.Need-returns-3
 unfolding settingsReady
 returns-3 c =
     rw (
-      test-passed (c .before .before .before .before .opened .ensures) (c .before .before .before .if2 .left),
+      test-passed (after-opened (c .before) .opened .ensures) (c .before .before .before .if2 .left),
       c .settings-length .ensures,
       c .before .date-count .ensures,
       c .before .before .category-count .ensures,

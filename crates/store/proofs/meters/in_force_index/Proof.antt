@@ -19,23 +19,32 @@ Inv-loop slots meters slot date best₀ best-start₀ k₀ best best-start k =
 abbrev μ-loop : tie.MeasureT-loop
 μ-loop slots meters slot date best₀ best-start₀ k₀ best best-start k = 8 - k
 
+abbrev start-place : tie.In-loop Inv-loop μ-loop → tie.Start Inv-loop μ-loop
+start-place c = c .before .before .before
+
+abbrev at-loop : tie.Else1 Inv-loop μ-loop → tie.At-loop Inv-loop μ-loop
+at-loop c = c .before .before .before
+
+abbrev at-loop-of-then1 : tie.Then1 Inv-loop μ-loop → tie.At-loop Inv-loop μ-loop
+at-loop-of-then1 c = c .before .before .before
+
 loop-holds : tie.Need-loop-holds Inv-loop μ-loop
 unfolding registrationsAt inForce indexed
 loop-holds c = (omega arith, omega arith, refl, refl)
 
 registration-status-requires : tie.Need-registration-status-requires Inv-loop μ-loop
-registration-status-requires c κs = let p = c .before .before .before .pre in (p .0, p .1, p .2, c .loop-test .taken)
+registration-status-requires c κs = let p = start-place c .pre in (p .0, p .1, p .2, c .loop-test .taken)
 
 returns : tie.Need-returns Inv-loop μ-loop
 unfolding inForceAfter
 returns c =
-    let l = c .before .before .before .loop in (
+    let l = at-loop-of-then1 c .loop in (
       l .inv .0,
       rw (used-stop _ _ _ (l .k) (c .before .before .loop-test .taken) (sym (c .before .registration-status .ensures) ∙ c .if1 .taken)) at (l .inv .3),
     )
 
 registration-start-requires : tie.Need-registration-start-requires Inv-loop μ-loop
-registration-start-requires c κs = let p = c .before .before .before .before .before .pre in (p .0, p .1, p .2, c .before .before .loop-test .taken)
+registration-start-requires c κs = let p = start-place (c .before .before) .pre in (p .0, p .1, p .2, c .before .before .loop-test .taken)
 
 takes-over-requires : tie.Need-takes-over-requires Inv-loop μ-loop
 takes-over-requires c κs = search needs
@@ -49,12 +58,12 @@ loop-less c = omega arith
 loop-again : tie.Need-loop-again Inv-loop μ-loop
 loop-again c =
     let c1 = c .before .before .before in
-    let l = c1 .before .before .before .loop in
+    let l = at-loop c1 .loop in
     let low = c1 .before .before .loop-test .taken in
     let more = used-more _ _ _ (l .k) low (λ e. c1 .if1 .left (c1 .before .registration-status .ensures ∙ e)) in
     let whole = rw more at (l .inv .3) in
     let start = c .before .before .registration-start .ensures in
-    let date = c1 .before .before .before .before .before .args .date in
+    let date = start-place (c1 .before .before) .args .date in
     let test = c .before .takes-over .ensures in
     ⊎-elim
     (λ w. (

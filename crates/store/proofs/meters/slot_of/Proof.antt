@@ -15,6 +15,15 @@ Inv-loop slots mpan meters i₀ i =
 abbrev μ-loop : tie.MeasureT-loop
 μ-loop slots mpan meters i₀ i = slots - i
 
+abbrev at-loop : tie.Then1 Inv-loop μ-loop → tie.At-loop Inv-loop μ-loop
+at-loop c = c .before .before .before
+
+abbrev in-loop : tie.Else2 Inv-loop μ-loop → tie.In-loop Inv-loop μ-loop
+in-loop c = c .before .before .before
+
+abbrev in-loop-of-then2 : tie.Then2 Inv-loop μ-loop → tie.In-loop Inv-loop μ-loop
+in-loop-of-then2 c = c .before .before .before
+
 loop-holds : tie.Need-loop-holds Inv-loop μ-loop
 unfolding slotOf
 loop-holds c = (omega arith, rw sub-zero)
@@ -26,10 +35,10 @@ shared-slice-read-kept : tie.Need-shared-slice-read-kept Inv-loop μ-loop
 shared-slice-read-kept c = omega arith
 
 returns : tie.Need-returns Inv-loop μ-loop
-returns c = let l = c .before .before .before .loop in sym (slot-same _ _ _ (l .i) (c .before .before .loop-test .taken) (c .if1 .taken)) ∙ l .inv .1
+returns c = let l = at-loop c .loop in sym (slot-same _ _ _ (l .i) (c .before .before .loop-test .taken) (c .if1 .taken)) ∙ l .inv .1
 
 returns-2 : tie.Need-returns-2 Inv-loop μ-loop
-returns-2 c = let l = c .before .before .before .before .loop in sym (slot-free _ _ _ (l .i) (c .before .before .before .loop-test .taken) (c .before .if1 .left) (c .if2 .taken)) ∙ l .inv .1
+returns-2 c = let l = in-loop-of-then2 c .before .loop in sym (slot-free _ _ _ (l .i) (in-loop-of-then2 c .loop-test .taken) (c .before .if1 .left) (c .if2 .taken)) ∙ l .inv .1
 
 add-i : tie.Need-add-i Inv-loop μ-loop
 add-i c = omega arith
@@ -39,9 +48,9 @@ loop-less c = omega arith
 
 loop-again : tie.Need-loop-again Inv-loop μ-loop
 loop-again c =
-    let l = c .before .before .before .before .loop in (
+    let l = in-loop c .before .loop in (
       omega arith,
-      sym (slot-next _ _ _ (l .i) (c .before .before .before .loop-test .taken) (c .before .if1 .left) (c .if2 .left)) ∙ l .inv .1,
+      sym (slot-next _ _ _ (l .i) (in-loop c .loop-test .taken) (c .before .if1 .left) (c .if2 .left)) ∙ l .inv .1,
     )
 
 returns-3 : tie.Need-returns-3 Inv-loop μ-loop

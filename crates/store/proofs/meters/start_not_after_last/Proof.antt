@@ -16,21 +16,30 @@ Inv-loop slots meters slot start answer₀ k₀ answer k =
 abbrev μ-loop : tie.MeasureT-loop
 μ-loop slots meters slot start answer₀ k₀ answer k = 8 - k
 
+abbrev start-place : tie.In-loop Inv-loop μ-loop → tie.Start Inv-loop μ-loop
+start-place c = c .before .before .before
+
+abbrev at-loop : tie.Else1 Inv-loop μ-loop → tie.At-loop Inv-loop μ-loop
+at-loop c = c .before .before .before
+
+abbrev at-loop-of-then1 : tie.Then1 Inv-loop μ-loop → tie.At-loop Inv-loop μ-loop
+at-loop-of-then1 c = c .before .before .before
+
 loop-holds : tie.Need-loop-holds Inv-loop μ-loop
 unfolding registrationsAt
 loop-holds c = (omega arith, refl)
 
 registration-status-requires : tie.Need-registration-status-requires Inv-loop μ-loop
-registration-status-requires c κs = let p = c .before .before .before .pre in (p .0, p .1, p .2, c .loop-test .taken)
+registration-status-requires c κs = let p = start-place c .pre in (p .0, p .1, p .2, c .loop-test .taken)
 
 returns : tie.Need-returns Inv-loop μ-loop
 unfolding notAfterLast
 returns c =
-    let l = c .before .before .before .loop in
+    let l = at-loop-of-then1 c .loop in
     rw (used-stop _ _ _ (l .k) (c .before .before .loop-test .taken) (sym (c .before .registration-status .ensures) ∙ c .if1 .taken)) at (l .inv .1)
 
 registration-start-requires : tie.Need-registration-start-requires Inv-loop μ-loop
-registration-start-requires c κs = let p = c .before .before .before .before .before .pre in (p .0, p .1, p .2, c .before .before .loop-test .taken)
+registration-start-requires c κs = let p = start-place (c .before .before) .pre in (p .0, p .1, p .2, c .before .before .loop-test .taken)
 
 add-k : tie.Need-add-k Inv-loop μ-loop
 add-k c = omega arith
@@ -42,7 +51,7 @@ loop-again : tie.Need-loop-again Inv-loop μ-loop
 unfolding notAfterLast
 loop-again c =
     let c1 = c .before in
-    let l = c1 .before .before .before .loop in
+    let l = at-loop c1 .loop in
     let more = used-more _ _ _ (l .k) (c1 .before .before .loop-test .taken) (λ e. c1 .if1 .left (c1 .before .registration-status .ensures ∙ e)) in
     (omega arith, rw (c .registration-start .ensures) (rw more at (l .inv .1)))
 

@@ -16,6 +16,12 @@ Inv-loop slots meters slot k₀ k =
 abbrev μ-loop : tie.MeasureT-loop
 μ-loop slots meters slot k₀ k = 8 - k
 
+abbrev at-loop : tie.Else1 Inv-loop μ-loop → tie.At-loop Inv-loop μ-loop
+at-loop c = c .before .before .before
+
+abbrev at-loop-of-then1 : tie.Then1 Inv-loop μ-loop → tie.At-loop Inv-loop μ-loop
+at-loop-of-then1 c = c .before .before .before
+
 loop-holds : tie.Need-loop-holds Inv-loop μ-loop
 unfolding registrationsAt
 loop-holds c = (omega arith, zero-add _)
@@ -25,7 +31,7 @@ registration-status-requires c κs = let p = c .before .before .before .pre in (
 
 returns : tie.Need-returns Inv-loop μ-loop
 returns c =
-    let l = c .before .before .before .loop in
+    let l = at-loop-of-then1 c .loop in
     omega (arith, rw (used-stop _ _ _ (l .k) (c .before .before .loop-test .taken) (sym (c .before .registration-status .ensures) ∙ c .if1 .taken)) at (l .inv .1))
 
 add-k : tie.Need-add-k Inv-loop μ-loop
@@ -36,7 +42,7 @@ loop-less c = omega arith
 
 loop-again : tie.Need-loop-again Inv-loop μ-loop
 loop-again c =
-    let l = c .before .before .before .loop in
+    let l = at-loop c .loop in
     let more = used-more _ _ _ (l .k) (c .before .before .loop-test .taken) (λ e. c .if1 .left (c .before .registration-status .ensures ∙ e)) in
     (omega arith, omega (arith, rw more at (l .inv .1)))
 

@@ -17,8 +17,11 @@ flags c = c .before .before
 abbrev values : tie.After-struct-known4 → tie.Else2
 values c = c .before .before
 
+abbrev start : tie.Else1 → tie.Start
+start c = c .before .before .before
+
 -- whose flags agree
-flags-agree : (c : tie.Else1) → eqb (flagNumber (flagMeant (c .before .before .before .args .self .flag))) (flagNumber (flagMeant (c .before .before .before .args .other .flag))) ≡ true
+flags-agree : (c : tie.Else1) → eqb (flagNumber (flagMeant (start c .args .self .flag))) (flagNumber (flagMeant (start c .args .other .flag))) ≡ true
 flags-agree c = agree (c .before .before .number-of .ensures) (c .before .number-of2 .ensures) (c .if1 .left)
 
 number-of-requires : tie.Need-number-of-requires
