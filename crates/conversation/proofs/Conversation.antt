@@ -10,7 +10,7 @@ use lib.ListN.{length, take, drop}
 use lib.Seq.{take-length, drop-length, getD-drop}
 use borrow.Table.Steps.{cases}
 use borrow.Author.Tests.{lt-ltb, eqb-true, eqb-false, ne-eqb}
-use Rattle.ledger.specs.Sizes.{settingsLength}
+use Rattle.ledger.specs.Sizes.{headerLength, settingsLength}
 use Rattle.ledger.specs.Checks.{Verdict}
 use Rattle.ledger.specs.Ledger.{Ledger, start, Call, answer, accepted, left, settingsShort, metersShort, anyShort, Lengths, ledgerAnswer, ledgerAfter, Opening}
 use Rattle.ledger.specs.Calls.{openingVerdict}
@@ -116,7 +116,7 @@ call-bytes b h =
 
 none-short : (a : Opening) → anyShort a (record { settings = 0; meters = 0; readings = 0; cells = 0 }) ≡ true
 unfolding anyShort metersShort settingsShort settingsLength
-none-short a = rw (lt-ltb 0 (8 + 8 * (length (a .categoryBytes) / 8) + length (a .dayTypes)) (omega arith))
+none-short a = rw (lt-ltb 0 (headerLength + 8 * (length (a .categoryBytes) / 8) + length (a .dayTypes)) (omega arith))
 
 none-refused : (a : Opening) → openingVerdict [] [] [] [] a .number ≡ 0 → ⊥
 unfolding settingsLength

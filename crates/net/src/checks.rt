@@ -2,7 +2,7 @@
 use crate::sides::ACTIVE_IMPORT;
 use reads::checks::category_number;
 use reads::checks::date_number;
-use reads::checks::first_failed;
+use reads::checks::first_number;
 use reads::checks::run_number;
 use settings::category::is_smart;
 use settings::category::quantity;
@@ -47,7 +47,7 @@ pub fn range_number(
     }
     let date_failed = date_number(settings, date);
     let category_failed = category_number(settings, category);
-    first_failed(date_failed, category_failed)
+    first_number(date_failed, category_failed)
 }
 
 // 26; `exports` is how many export categories there are on the other side.
@@ -74,5 +74,5 @@ pub fn pair_number(settings: &[u8], cells: &[u64], date: u64, category: u64, exp
 {
     let partner_failed = partner_number(settings, category, exports);
     let run_failed = run_number(settings, cells, date);
-    first_failed(partner_failed, run_failed)
+    first_number(partner_failed, run_failed)
 }

@@ -7,7 +7,7 @@ use native.Mathlib.Omega.{arith}
 use borrow.Author.Tests.{leb-true, leb-false, ltb-true, eqb-false, ne-eqb, not-false}
 use lib.Dec.{leb, eqb}
 use Rattle.metering.specs.Range.{between}
-use Rattle.ledger.specs.Checks.{runCheck, readCheck, totalsInRange, cellInRange}
+use Rattle.ledger.specs.Checks.{firstNumber, runCheck, readCheck, totalsInRange, cellInRange}
 use Rattle.ledger.specs.Store.{datesOf, periodsOf, rowLength, settingsReady, cellsReady}
 use Rattle.ledger.specs.Calls.{cellsUnready, totalsVerdict, cellVerdict}
 use Rattle.store.specs.declared.column.Column.{Column}
@@ -84,7 +84,8 @@ module _ (settings cells : List ℕ) (d : ℕ) where
 -- ---- which number they give
 
 -- the first of two checks decides where it fails
-pub first-number : (failed : Bool) (n : ℕ) {p q r x : ℕ} → p ≡ cond failed (suc n) 0 → q ≡ x → r ≡ cond (eqb p 0) q p → r ≡ cond failed (suc n) x
+pub first-number : (failed : Bool) (n : ℕ) {p q r x : ℕ} → p ≡ cond failed (suc n) 0 → q ≡ x → r ≡ firstNumber p q → r ≡ cond failed (suc n) x
+unfolding firstNumber
 first-number true n a b e = e ∙ rw (a, ne-eqb (suc n) 0 (λ (z : suc n ≡ 0). omega arith))
 first-number false n a b e = e ∙ rw (a, b)
 
@@ -104,7 +105,7 @@ module _ (short : Bool) (dates date : ℕ) (inRange isRun : Bool) (n : ℕ) (e :
   first-decides h = first short (leb dates date) _ n e h
 
   pub rest-decides :
-      (range run r : ℕ) → n ≡ 0 → range ≡ cond (not inRange) 15 0 → run ≡ cond (not isRun) 14 0 → r ≡ cond (eqb range 0) run range →
+      (range run r : ℕ) → n ≡ 0 → range ≡ cond (not inRange) 15 0 → run ≡ cond (not isRun) 14 0 → r ≡ firstNumber range run →
       r ≡ readCheck short dates date inRange isRun
   unfolding runCheck readCheck
   rest-decides range run r z a b f =

@@ -9,13 +9,13 @@ use store::lent::cells_unready;
 ghost use mathlib.Core.Path.{_≡_};
 ghost use mathlib.Core.Bool.{true, not, cond};
 ghost use Prim.Native.Nat.{_<_};
-ghost use lib.Dec.{eqb, leb};
-ghost use Rattle.ledger.specs.Checks.{runCheck, totalsInRange, cellInRange};
+ghost use lib.Dec.{leb};
+ghost use Rattle.ledger.specs.Checks.{firstNumber, runCheck, totalsInRange, cellInRange};
 ghost use Rattle.ledger.specs.Store.{categoriesOf, datesOf, periodsOf, rowLength, settingsReady, cellsReady, isRunAt};
 ghost use Rattle.ledger.specs.Calls.{cellsUnready, totalsVerdict, cellVerdict};
 
-pub fn first_failed(first: u64, second: u64) -> u64
-    ensures { λ r. ⌜ r ≡ cond (eqb first 0) second first ⌝ }
+pub fn first_number(first: u64, second: u64) -> u64
+    ensures { λ r. ⌜ r ≡ firstNumber first second ⌝ }
 {
     if first == 0 {
         return second;
@@ -89,7 +89,7 @@ pub fn totals_check(settings: &[u8], cells: &[u64], date: u64, category: u64) ->
     }
     let category_failed = category_number(settings, category);
     let run_failed = run_number(settings, cells, date);
-    first_failed(category_failed, run_failed)
+    first_number(category_failed, run_failed)
 }
 
 pub fn cell_check(settings: &[u8], cells: &[u64], date: u64, category: u64, period: u64) -> u64
@@ -101,5 +101,5 @@ pub fn cell_check(settings: &[u8], cells: &[u64], date: u64, category: u64, peri
     }
     let period_failed = period_number(settings, category, period);
     let run_failed = run_number(settings, cells, date);
-    first_failed(period_failed, run_failed)
+    first_number(period_failed, run_failed)
 }

@@ -7,7 +7,7 @@ use Rattle.net.specs.Sides.{pairedWith}
 use Rattle.net.proofs.checks.pair_number.Statement.{statement}
 use Rattle.net.proofs.checks.pair_number.Tie as tie
 
-abbrev start : tie.After-first-failed → tie.Start
+abbrev start : tie.After-first-number → tie.Start
 start c = c .before .before .before .before .before
 
 partner-number-requires : tie.Need-partner-number-requires
@@ -16,13 +16,13 @@ partner-number-requires c κs = search needs
 run-number-requires : tie.Need-run-number-requires
 run-number-requires c κs = search needs
 
-first-failed-requires : tie.Need-first-failed-requires
-first-failed-requires c κs = search needs
+first-number-requires : tie.Need-first-number-requires
+first-number-requires c κs = search needs
 
 returns : tie.Need-returns
 returns c =
     let a = start c .args in
-    first-number (not (pairedWith (now (a .settings)) (a .category) (a .exports))) 25 (c .before .before .partner-number .ensures) (c .before .run-number .ensures) (c .first-failed .ensures)
+    first-number (not (pairedWith (now (a .settings)) (a .category) (a .exports))) 25 (c .before .before .partner-number .ensures) (c .before .run-number .ensures) (c .first-number .ensures)
 
 pub pair-number-spec : {M : Type 1} → statement M
-pair-number-spec = tie.close (tie.spec partner-number-requires run-number-requires first-failed-requires returns)
+pair-number-spec = tie.close (tie.spec partner-number-requires run-number-requires first-number-requires returns)

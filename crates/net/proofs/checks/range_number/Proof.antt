@@ -28,8 +28,8 @@ date-number-requires c κs = opened c
 category-number-requires : tie.Need-category-number-requires
 category-number-requires c κs = opened (c .before)
 
-first-failed-requires : tie.Need-first-failed-requires
-first-failed-requires c κs = search needs
+first-number-requires : tie.Need-first-number-requires
+first-number-requires c κs = search needs
 
 returns-2 : tie.Need-returns-2
 returns-2 c =
@@ -37,7 +37,7 @@ returns-2 c =
     let els = date .before in
     let a = start els .args in
     rw (← els .before .too-short .ensures, els .if1 .left)
-    (first-number (leb (datesOf (now (a .settings))) (a .date)) 8 (date .date-number .ensures) (c .before .category-number .ensures) (c .first-failed .ensures))
+    (first-number (leb (datesOf (now (a .settings))) (a .date)) 8 (date .date-number .ensures) (c .before .category-number .ensures) (c .first-number .ensures))
 
 pub range-number-spec : {M : Type 1} → statement M
 range-number-spec =
@@ -47,5 +47,5 @@ range-number-spec =
     returns
     date-number-requires
     category-number-requires
-    first-failed-requires
+    first-number-requires
     returns-2)

@@ -19,15 +19,15 @@ period-number-requires c κs = date-passed _ _ _ (sym (c .before .lent-number .e
 run-number-requires : tie.Need-run-number-requires
 run-number-requires c κs = date-passed _ _ _ (sym (c .before .before .lent-number .ensures) ∙ c .before .if1 .left)
 
-first-failed-requires : tie.Need-first-failed-requires
-first-failed-requires c κs = search needs
+first-number-requires : tie.Need-first-number-requires
+first-number-requires c κs = search needs
 
 returns-2 : tie.Need-returns-2
 unfolding cellVerdict
 returns-2 c =
     let b = c .before .before .before in
     rest-decides _ _ _ _ _ _ (b .before .lent-number .ensures) _ _ _ (b .if1 .left) (c .before .before .period-number .ensures)
-    (c .before .run-number .ensures) (c .first-failed .ensures)
+    (c .before .run-number .ensures) (c .first-number .ensures)
 
 pub cell-check-spec : {M : Type 1} → statement M
 cell-check-spec =
@@ -37,5 +37,5 @@ cell-check-spec =
     returns
     period-number-requires
     run-number-requires
-    first-failed-requires
+    first-number-requires
     returns-2)
