@@ -1,2 +1,2 @@
 -- Laws that the console's proofs share.
-pub mod Laws
+mod Laws

@@ -1,2 +1,2 @@
 -- What the console's contracts cite.
-pub mod Session
+pub mod Turn

@@ -1,4 +1,4 @@
 // The command program's work: commands in from standard input, answers out to standard output.
-mod session;
+mod dialogue;
 
-pub use session::converse;
+pub use dialogue::converse;

@@ -1,12 +1,13 @@
--- `session::take_turns` meets its contract: between turns the session lies within its blocks, and no turn changes a length.
+-- `dialogue::take_turns` meets its contract: between turns the session lies within its blocks, and no turn changes a length.
 use borrow.Author.Needs.{needs}
 use mathlib.Core.Path.{_≡_, refl, sym}
 use lib.ListN.{length}
 use lib.Seq.{length-take-le}
-use Rattle.console.specs.Session.{BlockBounds, Held}
+use Rattle.session.specs.Session.{Held}
+use Rattle.console.specs.Turn.{BlockBounds}
 use native.Mathlib.Omega.{arith}
-use Rattle.console.proofs.session.take_turns.Statement.{statement}
-use Rattle.console.proofs.session.take_turns.Tie as tie
+use Rattle.console.proofs.dialogue.take_turns.Statement.{statement}
+use Rattle.console.proofs.dialogue.take_turns.Tie as tie
 
 abbrev Inv-loop : tie.InvT-loop
 Inv-loop input₀ output₀ category-records₀ day-types₀ settings₀ meters₀ readings₀ cells₀ capacity session₀ turns₀ input output category-records day-types settings meters readings cells session turns =

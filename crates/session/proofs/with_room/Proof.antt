@@ -1,11 +1,11 @@
--- `session::with_room` meets its contract: what waits is written out where a line has no room behind it.
+-- `with_room` meets its contract: what waits is written out where a line has no room behind it.
 use mathlib.Core.Path.{refl, sym}
 use mathlib.Core.Bool.{true, false}
 use native.Mathlib.Omega.{arith}
 use lib.Seq.{length-take-le}
 use borrow.Author.Needs.{needs}
-use Rattle.console.proofs.session.with_room.Statement.{statement}
-use Rattle.console.proofs.session.with_room.Tie as tie
+use Rattle.session.proofs.with_room.Statement.{statement}
+use Rattle.session.proofs.with_room.Tie as tie
 
 abbrev start : tie.After-write-all → tie.Start
 start c = c .before .before .before .before

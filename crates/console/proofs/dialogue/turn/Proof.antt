@@ -1,4 +1,4 @@
--- `session::turn` meets its contract: the bytes start with a whole command, which is obeyed, with a cut one, or with none.
+-- `dialogue::turn` meets its contract: the bytes start with a whole command, which is obeyed, with a cut one, or with none.
 use Prim.Native.Nat.{ℕ, _-_, _≤_}
 use mathlib.Core.Path.{_≡_, refl, sym, _∙_}
 use mathlib.Core.Bool.{false}
@@ -10,11 +10,11 @@ use borrow.Author.Tests.{leb-true, ltb-true}
 use denote.Ref.{now}
 use Rattle.input.specs.Form.{commandLength, isOverfull, Command}
 use Rattle.commands.specs.Commands.{State}
-use Rattle.console.specs.Session.{stateOf}
+use Rattle.session.specs.Session.{stateOf}
 use Rattle.console.proofs.Laws.{window-length, category-room, day-type-room}
 use borrow.Author.Needs.{needs}
-use Rattle.console.proofs.session.turn.Statement.{statement}
-use Rattle.console.proofs.session.turn.Tie as tie
+use Rattle.console.proofs.dialogue.turn.Statement.{statement}
+use Rattle.console.proofs.dialogue.turn.Tie as tie
 
 abbrev start : tie.After-command-extent → tie.Start
 start c = c .before .before .before .before .before .before .before .before .before .before .before .before .before

@@ -1,9 +1,9 @@
--- `append_bad` meets its contract: the line goes behind what waits, or to the front.
+-- `dialogue::append_bad` meets its contract: the line goes behind what waits, or to the front.
 use native.Mathlib.Omega.{arith}
 use borrow.Author.Needs.{needs}
-use Rattle.console.proofs.Laws.{line-printed}
-use Rattle.console.proofs.session.append_bad.Statement.{statement}
-use Rattle.console.proofs.session.append_bad.Tie as tie
+use Rattle.session.proofs.Laws.{line-printed}
+use Rattle.console.proofs.dialogue.append_bad.Statement.{statement}
+use Rattle.console.proofs.dialogue.append_bad.Tie as tie
 
 abbrev after-with-room : tie.After-slice-known2 → tie.After-with-room
 after-with-room c = c .before .before .before .before .before

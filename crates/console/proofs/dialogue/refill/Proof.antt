@@ -1,10 +1,10 @@
--- `session::refill` meets its contract: what is left of the block goes to its front, and what is read behind it.
+-- `dialogue::refill` meets its contract: what is left of the block goes to its front, and what is read behind it.
 use native.Mathlib.Omega.{arith}
 use mathlib.Core.Path.{sym}
 use lib.Seq.{length-take-le}
 use borrow.Author.Needs.{needs}
-use Rattle.console.proofs.session.refill.Statement.{statement}
-use Rattle.console.proofs.session.refill.Tie as tie
+use Rattle.console.proofs.dialogue.refill.Statement.{statement}
+use Rattle.console.proofs.dialogue.refill.Tie as tie
 
 abbrev start : tie.After-write-all-arg → tie.Start
 start c = c .before .before .before .before .before .before .before .before

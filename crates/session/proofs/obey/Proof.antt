@@ -1,15 +1,15 @@
--- `session::obey` meets its contract: an 11 or a 12 is collected, a 10 uses up what is collected, any other command asks the store; the line goes behind what waits.
+-- `obey` meets its contract: an 11 or a 12 is collected, a 10 uses up what is collected, any other command asks the store; the line goes behind what waits.
 use native.Mathlib.Omega.{arith}
 use denote.Ref.{now}
 use mathlib.Core.Path.{refl, sym}
 use lib.Seq.{length-take-le}
 use Rattle.commands.specs.Commands.{State}
 use Rattle.commands.proofs.Laws.{some-there, opening-there, category-there, day-type-there, collects-category, collects-day-type, uses-up, asks, opening-appended, asked-appended}
-use Rattle.console.proofs.Laws.{line-printed, operand-length, category-printed, day-type-printed}
-use Rattle.console.specs.Session.{stateOf}
+use Rattle.session.proofs.Laws.{line-printed, operand-length, category-printed, day-type-printed}
+use Rattle.session.specs.Session.{stateOf}
 use borrow.Author.Needs.{needs}
-use Rattle.console.proofs.session.obey.Statement.{statement}
-use Rattle.console.proofs.session.obey.Tie as tie
+use Rattle.session.proofs.obey.Statement.{statement}
+use Rattle.session.proofs.obey.Tie as tie
 
 abbrev begun : tie.Start → State
 begun s =

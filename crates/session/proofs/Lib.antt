@@ -1,0 +1,2 @@
+-- Laws of lines that wait.
+pub mod Laws

@@ -1,0 +1,2 @@
+-- What the session's contracts cite.
+pub mod Session
