@@ -22,8 +22,8 @@ start c = c .before .before .before .before
 abbrev after-row-start : tie.After-followed → tie.After-row-start
 after-row-start c = c .before .before .before .before .before .before
 
-row : (c : tie.After-row-length) → let a = start (asked c) .args in a .date * rowLength (a .settings .now) + rowLength (a .settings .now) ≤ length (a .cells .now)
-row c = let s = start (asked c) in row-fits (s .args .settings .now) (s .args .cells .now) (s .args .date) (s .pre .1) (s .pre .2)
+row-there : (c : tie.After-row-length) → let a = start (asked c) .args in a .date * rowLength (a .settings .now) + rowLength (a .settings .now) ≤ length (a .cells .now)
+row-there c = let s = start (asked c) in row-fits (s .args .settings .now) (s .args .cells .now) (s .args .date) (s .pre .1) (s .pre .2)
 
 -- the row's start and width as the code has them
 module _ (c : tie.After-row-start) where
@@ -34,7 +34,7 @@ module _ (c : tie.After-row-start) where
   width = omega (arith, c .before .row-length .ensures)
 
   fit : c .row-start .result + c .before .row-length .result ≤ length (start (asked (c .before)) .args .cells .now)
-  fit = omega (arith, starts, c .before .row-length .ensures, row (c .before))
+  fit = omega (arith, starts, c .before .row-length .ensures, row-there (c .before))
 
 is-predecessor-requires : tie.Need-is-predecessor-requires
 is-predecessor-requires c κs = search needs
@@ -55,7 +55,7 @@ row-length-requires : tie.Need-row-length-requires
 row-length-requires c κs = search needs
 
 row-start-requires : tie.Need-row-start-requires
-row-start-requires c κs = rw (c .row-length .ensures) (omega (arith, row c))
+row-start-requires c κs = rw (c .row-length .ensures) (omega (arith, row-there c))
 
 add-end : tie.Need-add-end
 add-end c = omega (arith, fit c)
@@ -76,7 +76,7 @@ count-row-requires : tie.Need-count-row-requires
 count-row-requires c κs =
     let r = c .before .before in
     let s = start (asked (r .before)) in
-    rw (part-is (rowLength (s .args .settings .now)) (s .args .date) _ _ (s .args .cells .now) (starts r) (width r) (row (r .before))) (s .pre .3)
+    rw (part-is (rowLength (s .args .settings .now)) (s .args .date) _ _ (s .args .cells .now) (starts r) (width r) (row-there (r .before))) (s .pre .3)
 
 followed-requires : tie.Need-followed-requires
 followed-requires c κs = search needs
@@ -95,7 +95,7 @@ returns-2 c =
     stepped-as
     (step-counted S (a .day) (a .date) (a .inherited .now) (a .cells .now) (s .pre .2)
     (sym (o .is-predecessor .ensures) ∙ not-false _ (r .before .before .if1 .left))
-    (row-bounds S (ready S (s .pre .0)) .1) (row (r .before)) _ _ (starts r) (width r) _ _ (e .0) (e .1))
+    (row-bounds S (ready S (s .pre .0)) .1) (row-there (r .before)) _ _ (starts r) (width r) _ _ (e .0) (e .1))
     (c .followed .ensures .0) (c .followed .ensures .1)
 
 pub count-step-spec : {M : Type 1} → statement M

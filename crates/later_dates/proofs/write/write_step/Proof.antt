@@ -25,8 +25,8 @@ after-row-start c = c .before .before .before
 abbrev after-follow-row : tie.After-followed → tie.After-follow-row
 after-follow-row c = c .before .before .before .before .before
 
-row : (c : tie.After-row-length) → let a = start (asked c) .args in a .date * rowLength (a .settings .now) + rowLength (a .settings .now) ≤ length (a .cells .now)
-row c = let s = start (asked c) in row-fits (s .args .settings .now) (s .args .cells .now) (s .args .date) (s .pre .1) (s .pre .2)
+row-there : (c : tie.After-row-length) → let a = start (asked c) .args in a .date * rowLength (a .settings .now) + rowLength (a .settings .now) ≤ length (a .cells .now)
+row-there c = let s = start (asked c) in row-fits (s .args .settings .now) (s .args .cells .now) (s .args .date) (s .pre .1) (s .pre .2)
 
 -- the row's start and width as the code has them
 module _ (c : tie.After-row-start) where
@@ -37,7 +37,7 @@ module _ (c : tie.After-row-start) where
   width = omega (arith, c .before .row-length .ensures)
 
   fit : c .row-start .result + c .before .row-length .result ≤ length (start (asked (c .before)) .args .cells .now)
-  fit = omega (arith, starts, c .before .row-length .ensures, row (c .before))
+  fit = omega (arith, starts, c .before .row-length .ensures, row-there (c .before))
 
 is-predecessor-requires : tie.Need-is-predecessor-requires
 is-predecessor-requires c κs = search needs
@@ -61,7 +61,7 @@ row-length-requires : tie.Need-row-length-requires
 row-length-requires c κs = search needs
 
 row-start-requires : tie.Need-row-start-requires
-row-start-requires c κs = rw (c .row-length .ensures) (omega (arith, row c))
+row-start-requires c κs = rw (c .row-length .ensures) (omega (arith, row-there c))
 
 add-end : tie.Need-add-end
 add-end c = omega (arith, fit c)
@@ -82,7 +82,7 @@ follow-row-requires : tie.Need-follow-row-requires
 follow-row-requires c κs =
     let r = c .before .before in
     let s = start (asked (r .before)) in
-    rw (part-is (rowLength (s .args .settings .now)) (s .args .date) _ _ (s .args .cells .now) (starts r) (width r) (row (r .before))) (s .pre .3)
+    rw (part-is (rowLength (s .args .settings .now)) (s .args .date) _ _ (s .args .cells .now) (starts r) (width r) (row-there (r .before))) (s .pre .3)
 
 followed-requires : tie.Need-followed-requires
 followed-requires c κs = search needs
@@ -104,7 +104,7 @@ returns-2 c =
     stepped-as
     (step-written S (a .day) (a .date) (a .inherited .now) (a .cells .now) (s .pre .2)
     (sym (o .is-predecessor .ensures) ∙ not-false _ (r .before .before .if1 .left))
-    (row-bounds S (ready S (s .pre .0)) .1) (row (r .before)) _ _ (starts r) (width r) _ _ (e .1 .0) (e .1 .1) _ (e .0))
+    (row-bounds S (ready S (s .pre .0)) .1) (row-there (r .before)) _ _ (starts r) (width r) _ _ (e .1 .0) (e .1 .1) _ (e .0))
     (c .followed .ensures .0) (c .followed .ensures .1)
 
 pub write-step-spec : {M : Type 1} → statement M
