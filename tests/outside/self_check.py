@@ -5,9 +5,10 @@
 First hand-made inputs for the forms of commands. Then a second, slower
 calculation: each cell straight from the list of accepted calls by the rules in
 the order the paper gives them, moved by comparing every cell of every date,
-totals by minutes and fractions, nets by adding each cell with its sign. Then
-known slips: the ledger's text is changed in one place, and some stream, or for
-nets some random store, must hear the difference.
+totals by minutes and fractions, nets by adding each cell with its sign, bands by
+adding each date's cells. Then known slips: the ledger's text is changed in one
+place, and some stream, or for nets and bands some random store, must hear the
+difference.
 """
 
 import random
@@ -33,6 +34,7 @@ class Doubled(ledger.Ledger):
         super().__init__(*opening)
         self.calls = []
         self.readings = lru_cache(None)(self.readings)
+        self.all_cells = lru_cache(2)(self.all_cells)   # of before a run and after it
 
     def note(self, answer, *call):
         if answer[0] == 'ok':
@@ -163,6 +165,24 @@ class Doubled(ledger.Ledger):
         Doubled.checked += 1
         return answer
 
+    def band(self, category, day_type, least, most, room):
+        answer = super().band(category, day_type, least, most, room)
+        if answer[0] != 'ok':
+            return answer
+        tots = [0] * self.dates
+        for (d, number, period), (flag, value, *rest) in self.all_cells(len(self.calls)).items():
+            tots[d] += value if number == category else 0
+        there_are, dates = 0, []
+        for d, tot in enumerate(tots):
+            if (('run', d) in self.calls and self.day_types[d] == day_type
+                    and tot in range(least, most + 1)):
+                there_are += 1
+                if len(dates) < room:
+                    dates.append(d)
+        assert answer[1:] == (len(dates), there_are, dates)
+        Doubled.checked += 1
+        return answer
+
 
 def doubled(plain):
     return Doubled(plain.duration, plain.meters, plain.categories, plain.day_types)
@@ -193,16 +213,15 @@ class Doubling(program.Program):
 
 # Import and export of two groups, import of a third and export of a fourth; then what is in other
 # families: not domestic, another connection, Advanced.
-NET_KEYS = [(1, 1, 1, 1, 1), (1, 1, 1, 2, 1), (1, 2, 1, 1, 1), (1, 2, 1, 2, 1), (1, 3, 1, 1, 1),
-            (1, 4, 1, 2, 1), (1, 1, 2, 1, 1), (1, 1, 2, 2, 1), (1, 1, 1, 1, 2), (1, 1, 1, 2, 2),
-            (2, 0, 0, 1, 1), (2, 0, 0, 2, 1)]
+KEYS = [(1, 1, 1, 1, 1), (1, 1, 1, 2, 1), (1, 2, 1, 1, 1), (1, 2, 1, 2, 1), (1, 3, 1, 1, 1),
+        (1, 4, 1, 2, 1), (1, 1, 2, 1, 1), (1, 1, 2, 2, 1), (1, 1, 1, 1, 2), (1, 1, 1, 2, 2),
+        (2, 0, 0, 1, 1), (2, 0, 0, 2, 1)]
 
 
-def net_answers(opening, seed):
-    """All nets of a small random store, of the date and category past the last too."""
-    rng = random.Random(seed)
+def small_store(opening, rng):
+    """A store of nine dates, seven of them run, with a meter for each of six categories."""
     categories = [(*key, rng.randrange(3) if key[0] == 1 else 0, 0, rng.choice((0, 1, 1, 2)))
-                  for key in rng.sample(NET_KEYS, 6)]
+                  for key in rng.sample(KEYS, 6)]
     dates = 9
     store = opening(30, 6, b''.join(map(bytes, categories)),
                     [rng.choice((1, 1, 2)) for _ in range(dates)])
@@ -215,18 +234,46 @@ def net_answers(opening, seed):
             store.reception(7, mpan, date, 30, category[3], body)
     for date in rng.sample(range(dates), dates - 2):
         store.run(date)
+    return store
+
+
+def net_answers(opening, seed):
+    """All nets of a small random store, of the date and category past the last too."""
+    rng = random.Random(seed)
+    store = small_store(opening, rng)
     lengths = rng.choice(((47, 48), (48, 47)))
     return [store.net(date, category, all_groups, *given)
             for given in ((48, 48), lengths)
-            for date in range(dates + 1) for category in range(len(categories) + 1)
+            for date in range(store.dates + 1) for category in range(len(store.categories) + 1)
             for all_groups in (False, True)]
+
+
+def band_answers(opening, seed):
+    """Bands of a small random store, with each end at, below or above the TOT of some date."""
+    rng = random.Random(seed)
+    store = small_store(opening, rng)
+    answers = []
+    for category in range(len(store.categories) + 1):
+        ends = {0, 1, 2 ** 64 - 1}
+        for date in range(store.dates):
+            read, *totals = store.totals(date, category)
+            if read == 'ok':
+                ends.update(range(max(0, totals[0] - 1), totals[0] + 2))
+        for day_type in (1, 2, rng.choice((0, 3, 17, 2 ** 64 - 1))):
+            for _ in range(12):            # every fourth or so is upside down
+                least, most = rng.choices(sorted(ends), k=2)
+                if rng.random() < 0.5:
+                    least, most = min(least, most), max(least, most)
+                answers.append(store.band(category, day_type, least, most, rng.randrange(5)))
+    return answers
 
 
 def check_twice(streams, commands, stores):
     for seed in range(streams):
         list(Doubling(stream(seed, 'small', commands), program.PROFILES['small']).answers())
     for seed in range(stores):
-        net_answers(lambda *given: doubled(ledger.opening(*given)), seed)
+        for answers in net_answers, band_answers:
+            answers(lambda *given: doubled(ledger.opening(*given)), seed)
     return Doubled.checked
 
 
@@ -313,8 +360,8 @@ SLIPS = [
     ('takes the present sets when another date is run', '        self.cells = self.worked_out()',
      '        for d in self.pictures: self.pictures[d] = [(self.in_force(m, d).category, s[d]) '
      'for m, s in self.held.items() if d in s]\n        self.cells = self.worked_out()'),
-    ('copies from the latest run, not the nearest earlier date', 'in sorted(self.pictures)',
-     'in self.pictures'),
+    ('copies from the latest run, not the nearest earlier date', 'in sorted(self.pictures):',
+     'in self.pictures:'),
     ('rounds halves down', '(2 * total + count) // (2 * count)',
      '(2 * total + count - 1) // (2 * count)'),
     ('takes ZE for a zero reading', 'if quality <= 7:', 'if quality <= 7 or 10 <= quality <= 13:'),
@@ -355,6 +402,31 @@ NET_SLIPS = [
     ('finds a date not run before a partner that is absent', 'asked = self.categories[category]\n',
      'asked = self.categories[category]\n        if date not in self.pictures: return no(14)\n'),
     ('finds no fault with short marks', 'numbers < self.periods or marks', 'numbers'),
+]
+
+# And for bands.
+BAND_SLIPS = [
+    ('goes downward', 'dates = [date for date in sorted(self.pictures)',
+     'dates = [date for date in sorted(self.pictures, reverse=True)'),
+    ('leaves out the upper end', '<= most]', '< most]'),
+    ('leaves out the lower end', 'and least <= self', 'and least < self'),
+    ('takes a date not run for one with TOT 0',
+     'sorted(self.pictures)\n                 if self.day_types[date] == day_type\n'
+     '                 and least <= self.tot([date], category)',
+     'range(self.dates)\n                 if self.day_types[date] == day_type\n'
+     '                 and least <= self.tot([date] if date in self.cells else [], category)'),
+    ('lets other day types in', 'if self.day_types[date] == day_type\n', 'if day_type\n'),
+    ('says that all were written', 'len(written), len(dates)', 'len(dates), len(dates)'),
+    ('says that there are those written', 'len(written), len(dates)', 'len(written), len(written)'),
+    ('writes the last ones', 'written = dates[:room]', 'written = dates[-room:] if room else []'),
+    ('writes past the room', 'len(dates), written\n', 'len(dates), dates\n'),
+    ('turns a band that is upside down', 'written = dates[:room]',
+     'written = dates[:room]\n        if least > most:\n'
+     '            return self.band(category, day_type, most, least, room)'),
+    ('finds a band upside down before a category that is absent',
+     'if category >= len(self.categories):\n            return no(15)\n        # No',
+     'if category >= len(self.categories) and least <= most:\n            return no(15)\n'
+     '        if least > most:\n            return "ok", 0, 0, []\n        # No'),
 ]
 
 
@@ -400,7 +472,9 @@ def main():
     given = lru_cache(None)(stream)
     heard = (heard_each(SLIPS, 'stream', lambda program, seed: program.run(given(seed)))
              and heard_each(NET_SLIPS, 'store',
-                            lambda program, seed: net_answers(program.opening, seed)))
+                            lambda program, seed: net_answers(program.opening, seed))
+             and heard_each(BAND_SLIPS, 'store',
+                            lambda program, seed: band_answers(program.opening, seed)))
     return 0 if heard else 1
 
 

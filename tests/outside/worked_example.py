@@ -1,4 +1,4 @@
-"""The paper's worked example, its marked list and a net worked by hand, on the plain ledger.
+"""The paper's worked example, its marked list, a net and bands worked by hand, on the plain ledger.
 
     python3 worked_example.py
 """
@@ -115,8 +115,24 @@ def net_of_panels():
     assert net(1, 0, False) == ('ok', 50, 100, *day([250, -250, 50], 3))
 
 
+def days_like_the_coming_one():
+    """Dates by their TOT: one of another day type among them, and the last not run at first."""
+    ledger = opening(30, 1, bytes((1, 1, 1, 1, 1, 0, 0, 1)), [1, 2, 1, 1, 1])
+    assert ledger.registration(1000000000003, 0, 0, 0, 7, 1, 2 ** 32 - 1) == ('ok',)
+    for date, wh in enumerate((700, 700, 900, 650)):
+        assert ledger.reception(7, 1000000000003, date, 30, 1, reading(30, wh)) == ('ok',)
+        assert ledger.run(date) == ('ok', 1)
+    assert ledger.band(0, 1, 650, 700, 5) == ('ok', 2, 2, [0, 3])
+    assert ledger.band(0, 1, 0, 1000, 2) == ('ok', 2, 3, [0, 2])
+    assert ledger.band(0, 1, 701, 700, 5) == ('ok', 0, 0, [])
+    # Date 4 copies date 3.
+    assert ledger.run(4) == ('ok', 1)
+    assert ledger.band(0, 1, 650, 650, 5) == ('ok', 2, 2, [3, 4])
+
+
 if __name__ == '__main__':
     assert run(INPUT) == OUTPUT
     marked_list()
     net_of_panels()
-    print('worked example, marked list and net agree')
+    days_like_the_coming_one()
+    print('worked example, marked list, net and bands agree')

@@ -1,6 +1,8 @@
 // The engine's face: all that its users call and are answered with. No call has a `requires`; each contract stands with its call.
+pub use band::search_band;
 pub use entries::cell::Cell;
 pub use entries::cell::Flag;
+pub use entries::cell::letter;
 pub use net::read_net;
 pub use opening::open;
 pub use reads::read_cell;
@@ -9,6 +11,8 @@ pub use reception::receive;
 pub use registration::register;
 pub use run::run;
 pub use settings::writing::OpeningTerms;
+pub use store::outcome::Band;
+pub use store::outcome::BandOutcome;
 pub use store::outcome::CellOutcome;
 pub use store::outcome::Net;
 pub use store::outcome::NetOutcome;

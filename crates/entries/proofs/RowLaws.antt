@@ -6,8 +6,8 @@ use native.Mathlib.Nat.{add-zero, add-suc, add-le-add, add-mul, suc-mul}
 use native.Mathlib.Numerals.{add-one}
 use native.Mathlib.Omega.{arith}
 use lib.Dec.{eqb}
-use lib.ListN.{length, getD, take, drop, List·getD-append, length-drop}
-use lib.Seq.{drop-cons, getD-at, drop-length, getD-append-add, getD-drop, getD-take, length-take-le, take-at, drop-at, drop-drop}
+use lib.ListN.{length, getD, take, drop, List·getD-append}
+use lib.Seq.{drop-cons, getD-at, drop-length, getD-append-add, getD-drop, getD-take, take-at, drop-at, drop-drop}
 use borrow.Table.Steps.{cases}
 use borrow.Author.Tests.{eqb-true, eqb-false}
 use Rattle.metering.specs.Sum.{sumBelow, sumBelow-suc, sumBelow-zero}
@@ -67,9 +67,6 @@ filled-whole f xs ys k n so is whole =
     filled f xs ys k (length xs) so (is ∙ whole) ∙ filling-all f xs ∙ ap (λ (m : ℕ). tabulate m f) (sym whole)
 
 -- ---- a part of a row
-
-pub part-length : (xs : List ℕ) (at n : ℕ) → at + n ≤ length xs → length (take n (drop at xs)) ≡ n
-part-length xs at n h = length-take-le n (drop at xs) (rw length-drop (omega arith))
 
 pub part-at : (xs : List ℕ) (at n p : ℕ) → p < n → getD (take n (drop at xs)) p 0 ≡ getD xs (at + p) 0
 part-at xs at n p l = getD-take n (drop at xs) p 0 l ∙ getD-drop at xs p 0

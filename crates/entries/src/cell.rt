@@ -1,7 +1,7 @@
 // A cell by value, and the two leaves that know its entry's encoding: `cell_of_entry` reads, `entry_of` puts.
 ghost use mathlib.Core.Path.{_≡_};
 ghost use Prim.Native.Nat.{_<_};
-ghost use Rattle.ledger.specs.Method.{flagNumber, blank, ownCell, pooledCell, isOwnCell, carried, sameCell};
+ghost use Rattle.ledger.specs.Method.{flagNumber, letterOf, blank, ownCell, pooledCell, isOwnCell, carried, sameCell};
 ghost use Rattle.ledger.specs.Store.{flagOf, flagNumberOf, entryOf, cellOfEntry};
 ghost use Rattle.entries.specs.Cell.{flagMeant, cellMeant};
 
@@ -132,6 +132,18 @@ fn number_of(flag: Flag) -> u64
         Flag::D => 2,
         Flag::E => 3,
         Flag::N => 4,
+    }
+}
+
+// Its letter in ASCII.
+pub fn letter(flag: Flag) -> u8
+    ensures { λ r. ⌜ r ≡ letterOf (flagMeant flag) ⌝ }
+{
+    match flag {
+        Flag::A => b'A',
+        Flag::D => b'D',
+        Flag::E => b'E',
+        Flag::N => b'N',
     }
 }
 

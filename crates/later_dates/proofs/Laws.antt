@@ -17,8 +17,8 @@ use Rattle.ledger.specs.Store.{datesOf, rowLength, entryOf}
 use Rattle.ledger.specs.Table.{tabulate, filling}
 use Rattle.ledger.specs.Calls.{rowAt, putRow, lastRun, inheritedFrom, differing, carriedEntry, Placing, leaveRow, follows, followedEntry, inheritedBeyond, followRow, inheritedAfter, movedInRow, carryOn}
 use Rattle.ledger.proofs.Walks.{put-same, carryOn-end, carryOn-pass, carryOn-stop, carryOn-go, carryOn-same}
-use Rattle.ledger.proofs.Lists.{length-tabulate, getD-tabulate, tabulate-ext}
-use Rattle.entries.proofs.RowLaws.{filling-below, part-at, part-length, differing-le, differing-ext, differing-none}
+use Rattle.ledger.proofs.Lists.{length-tabulate, getD-tabulate, tabulate-ext, part-length}
+use Rattle.entries.proofs.RowLaws.{filling-below, part-at, differing-le, differing-ext, differing-none}
 use Rattle.entries.specs.Row.{spliced}
 use Rattle.later_dates.specs.Walk.{Stepped}
 

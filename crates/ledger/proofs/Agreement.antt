@@ -10,11 +10,12 @@ use borrow.Table.Steps.{cases}
 use borrow.Author.Tests.{eqb-true, leb-false, ltb-true, ltb-false, not-false}
 use Rattle.metering.specs.Laws.{between-true}
 use Rattle.metering.specs.Range.{between}
-use Rattle.ledger.specs.Checks.{RegistrationCall, ReceptionCall, Verdict, verdict, orElse, firstNumber, callNumber, registrationCheck, receptionCheck, runCheck, readCheck, totalsInRange, cellInRange, NetCall, resultsShort, mayNet, netCheck}
+use Rattle.ledger.specs.Checks.{RegistrationCall, ReceptionCall, Verdict, verdict, orElse, firstNumber, callNumber, registrationCheck, receptionCheck, runCheck, readCheck, totalsInRange, cellInRange, NetCall, resultsShort, mayNet, netCheck, bandCheck}
+use Rattle.ledger.specs.Band.{BandCall}
 use Rattle.ledger.specs.Sizes.{metersLength, cellsLength}
-use Rattle.ledger.specs.Ledger.{Opening, categories, dates, periods, Meter, category, Ledger, start, Call, register, receive, run, readTotals, readCell, readNet, Answer, moved, totalsAre, cellIs, netIs, answer, left, Lengths, settingsShort, metersShort, cellsShort, anyShort, ledgerRegistrationCheck, afterRegistration, ledgerReceptionCheck, afterReception, cellAt, isRun, ledgerRunCheck, afterRun, movedBetween, ledgerTotalsCheck, ledgerCellCheck, totalsAt, ledgerNetCheck, netAt, ledgerAnswer, ledgerAfter}
+use Rattle.ledger.specs.Ledger.{Opening, categories, dates, periods, Meter, category, Ledger, start, Call, register, receive, run, readTotals, readCell, readNet, searchBand, Answer, moved, totalsAre, cellIs, netIs, bandIs, answer, left, Lengths, settingsShort, metersShort, cellsShort, anyShort, ledgerRegistrationCheck, afterRegistration, ledgerReceptionCheck, afterReception, cellAt, isRun, ledgerRunCheck, afterRun, movedBetween, ledgerTotalsCheck, ledgerCellCheck, totalsAt, ledgerNetCheck, netAt, ledgerBandCheck, bandAt, ledgerAnswer, ledgerAfter}
 use Rattle.ledger.specs.Store.{rowLength, datesOf, categoriesOf, periodsOf, isRunAt}
-use Rattle.ledger.specs.Calls.{metersUnready, cellsUnready, openingVerdict, openedMeters, openedReadings, openedCells, registrationVerdict, registeredMeters, receptionVerdict, receivedReadings, runVerdict, ranFrom, totalsVerdict, totalsFor, cellVerdict, cellFor, netVerdict, netFor}
+use Rattle.ledger.specs.Calls.{metersUnready, cellsUnready, openingVerdict, openedMeters, openedReadings, openedCells, registrationVerdict, registeredMeters, receptionVerdict, receivedReadings, runVerdict, ranFrom, totalsVerdict, totalsFor, cellVerdict, cellFor, netVerdict, netFor, bandVerdict, bandFor}
 use Rattle.ledger.specs.Engine.{Parts, callAnswer, withMeters, withReadings, withCells, leaves, openedParts, Item, cut, restored, partsAfter, answersFrom, storeAnswers, cutLengths, ledgerAnswers, Every, lengthsOf, AreBytes, BodyOfBytes, BodiesOfBytes, Agreement}
 use Rattle.ledger.proofs.Choices.{check-passed, neither, both-passed, call-passed}
 use Rattle.ledger.proofs.Verdicts.{left-of, passed-else}
@@ -25,7 +26,7 @@ use Rattle.ledger.proofs.Runs.{after-sound, run-agrees, run-length, run
 use Rattle.ledger.proofs.Register.{registration-check, registration-accepted, registration-agrees}
 use Rattle.ledger.proofs.Receive.{reception-check, reception-accepted, reception-agrees}
 use Rattle.ledger.proofs.Open as open-step
-use Rattle.ledger.proofs.Answers.{run-is, cell-is, totals-are, may-net-is, net-is}
+use Rattle.ledger.proofs.Answers.{run-is, cell-is, totals-are, may-net-is, net-is, band-is}
 
 -- ---- the relation
 
@@ -316,6 +317,22 @@ module _ (whole : Lengths) (p : Parts) (l : Ledger) (agrees : Agrees whole p l) 
   unfolding callAnswer leaves ledgerAnswer ledgerAfter
   net-step a = record { answers = rw (net-verdict a) (same-answer _ _ _ (λ e. ap netIs (net-value a e))); after = read-agrees }
 
+  band-verdict : (a : BandCall) → bandVerdict S C a ≡ ledgerBandCheck l lent a
+  unfolding bandVerdict ledgerBandCheck bandCheck
+  band-verdict a = rw cells-short (cases (cellsShort o lent) (λ q. rw q) (λ q. rw (q, enough-cells q .0 .categories-are)))
+
+  band-value : (a : BandCall) → ledgerBandCheck l lent a .number ≡ 0 → bandFor S C a ≡ bandAt l a
+  unfolding ledgerBandCheck bandCheck totalsInRange
+  band-value a e =
+      let p1 = check-passed (cellsShort o lent) 0 _ e in
+      let p15 = check-passed (not (ltb (a .category) (categories o))) 14 0 (p1 .1) in
+      let enough = enough-cells (p1 .0) in
+      band-is l S C (enough .0) (enough .1) (agrees .sound) a (ltb-true (a .category) (categories o) (not-false _ (p15 .0)))
+
+  band-step : (a : BandCall) → Step (searchBand a)
+  unfolding callAnswer leaves ledgerAnswer ledgerAfter
+  band-step a = record { answers = rw (band-verdict a) (same-answer _ _ _ (λ e. ap bandIs (band-value a e))); after = read-agrees }
+
   step : (c : Call) → BodyOfBytes c → Step c
   step (register a) b = registration-step a
   step (receive a) b = reception-step a b
@@ -323,6 +340,7 @@ module _ (whole : Lengths) (p : Parts) (l : Ledger) (agrees : Agrees whole p l) 
   step (readTotals d c) b = totals-step d c
   step (readCell d c j) b = cell-step d c j
   step (readNet a) b = net-step a
+  step (searchBand a) b = band-step a
 
 -- ---- every list of calls
 

@@ -11,13 +11,15 @@ use Rattle.metering.specs.Average.{annual}
 use Rattle.metering.specs.Calendar.{liesWithin, windowStart, windowEnd}
 use Rattle.ledger.specs.Method.{Cell, isFresh, isBlank, overRunDates, totOn, offOn, peakOn, totalsOn}
 use Rattle.ledger.specs.Net.{activeImport, activeExport, onSide, sideOf}
+use Rattle.ledger.specs.Band.{BandCall, inBand, bandDates, bandOn}
 use Rattle.ledger.specs.Checks.{NetCall, mayNet}
-use Rattle.ledger.specs.Ledger.{categories, dates, periods, category, dayType, Ledger, cellAt, isPicture, isRun, totalsAt, sideAt, netAt}
-use Rattle.ledger.specs.Store.{periodsOf, rowLength, categoryOf, cellIndex, cellOfEntry, isRunAt}
-use Rattle.ledger.specs.Calls.{rowAt, cellFor, totalsFor, sideFor, netFor}
+use Rattle.ledger.specs.Ledger.{categories, dates, periods, category, dayType, Ledger, cellAt, isPicture, isRun, totalsAt, sideAt, netAt, bandAt}
+use Rattle.ledger.specs.Store.{periodsOf, rowLength, categoryOf, dayTypeOf, cellIndex, cellOfEntry, isRunAt}
+use Rattle.ledger.specs.Calls.{rowAt, cellFor, totalsFor, sideFor, netFor, bandFor}
 use Rattle.ledger.specs.Engine.{Every}
 use Rattle.ledger.proofs.Lists.{sumBelow-cong, block-below}
-use Rattle.ledger.proofs.Nets.{chosen-cong, chosen-below, net-cong}
+use Rattle.ledger.proofs.Chosen.{chosen-cong, chosen-below}
+use Rattle.ledger.proofs.Nets.{net-cong}
 use Rattle.ledger.proofs.Entries.{cell-entry}
 use Rattle.ledger.proofs.Columns.{cell-small}
 use Rattle.ledger.proofs.Rows.{columnCell, run-at}
@@ -151,3 +153,15 @@ module _ (l : Ledger) (s cells : List ℕ) (agree : SettingsAgree (l .opening) s
       (λ x h. run-is x (omega arith))
       (λ x c k h m q n. cell-is x c k (omega arith) m n (sym (run-is x (omega arith)) ∙ q))
       (run-is (a .date) hd ∙ r))
+
+  -- a date that is not run is in no band, and on a run one TOT is the same
+  band-test : (a : BandCall) → a .category < categories (l .opening) → (d : ℕ) → d < dates (l .opening) →
+      inBand (dates (l .opening)) (isRunAt (rowLength s) cells) (dayTypeOf s) (λ x. totalsFor s cells x (a .category) .tot) a d
+      ≡ inBand (dates (l .opening)) (isRun l) (dayType (l .opening)) (λ x. totalsAt l x (a .category) .tot) a d
+  unfolding inBand
+  band-test a hc d hd =
+      rw (agree .types d hd, run-is d hd) (cases (isRun l d) (λ q. rw (q, totals-are d (a .category) hd hc q)) (λ q. rw q))
+
+  pub band-is : (a : BandCall) → a .category < categories (l .opening) → bandFor s cells a ≡ bandAt l a
+  unfolding bandFor bandAt bandOn bandDates
+  band-is a hc = rw (agree .dates-are, chosen-cong (dates (l .opening)) _ _ (band-test a hc))

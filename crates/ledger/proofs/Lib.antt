@@ -15,9 +15,11 @@ pub mod Settings
 pub mod Register
 pub mod Receive
 pub mod Open
+pub mod Chosen
 pub mod Nets
 pub mod Answers
 pub mod Parts
 pub mod Agreement
 pub mod Demands
 pub mod NetDemands
+pub mod BandDemands

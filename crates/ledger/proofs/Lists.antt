@@ -166,3 +166,8 @@ getD-cut n xs i h = getD-take n xs i 0 h
 -- the first entries of a list of the length of the cut part, put back
 pub getD-back : (n : ℕ) (xs ys : List ℕ) (i : ℕ) → i < length ys → getD (ys ++ drop n xs) i 0 ≡ getD ys i 0
 getD-back n xs ys i h = List·getD-append ys (drop n xs) 0 i h
+
+-- ---- a part of a list
+
+pub part-length : {A : Type 0} (xs : List A) (at n : ℕ) → at + n ≤ length xs → length (take n (drop at xs)) ≡ n
+part-length xs at n h = length-take-le n (drop at xs) (rw length-drop (omega arith))

@@ -14,8 +14,8 @@ use borrow.Author.Tests.{eq-eqb, eqb-true, eqb-false, ltb-true, ltb-false}
 use Rattle.metering.specs.Sum.{sumBelow}
 use Rattle.metering.specs.Range.{categoryValid}
 use Rattle.ledger.specs.Method.{Category, categoryAt, isSmart, sameFamily, Flag, A, D, E, N, Cell, Fresh, absent, own, pooled, blank, carried, cellFrom, Day, notRun, ran, cellOf, cellOn, totOn, totalsOn}
-use Rattle.ledger.specs.Table.{tabulate}
-use Rattle.ledger.specs.Net.{activeImport, activeExport, onSide, chosenBelow, sideOf, sumOver, anyOf, signedSum, isN, netPeriod, markOf, netTot, netOn}
+use Rattle.ledger.specs.Table.{tabulate, chosenBelow}
+use Rattle.ledger.specs.Net.{activeImport, activeExport, onSide, sideOf, sumOver, anyOf, signedSum, isN, netPeriod, markOf, netTot, netOn}
 use Rattle.ledger.specs.Checks.{anyBelow, firstFailed, verdict, recordAt, sameKey, categoryNumber, dayTypeNumber, sizesValid, openingCheck, orElse, mayNet}
 use Rattle.ledger.specs.Ledger.{Opening, categories, dates, periods, category, Ledger, cellBy, cellAt, isRun, dayOf, totalsAt, sideAt, netAt}
 use Rattle.ledger.specs.Engine.{Every}
@@ -25,7 +25,8 @@ use Rattle.ledger.proofs.Receive.{first-passed}
 use Rattle.ledger.proofs.Verdicts.{passed-else}
 use Rattle.ledger.proofs.Demands.{any-false}
 use Rattle.ledger.proofs.Lists.{tabulate-at, getD-tabulate, tabulate-ext}
-use Rattle.ledger.proofs.Nets.{sumOver-append, sumOver-one, chosen-pass, anyOf-append, tot-minus, tot7-minus, period-swapped, tot-swapped, tot7-swapped, mark-swapped}
+use Rattle.ledger.proofs.Chosen.{chosen-pass, chosen-none}
+use Rattle.ledger.proofs.Nets.{sumOver-append, sumOver-one, anyOf-append, tot-minus, tot7-minus, period-swapped, tot-swapped, tot7-swapped, mark-swapped}
 
 -- ---- sides
 
@@ -234,11 +235,6 @@ nothing-nets-to-zero l a k h may all =
     )
 
 -- ---- the first form: one category on each side
-
-chosen-none : (n : ℕ) (test : ℕ → Bool) → ((x : ℕ) → x < n → test x ≡ false) → chosenBelow n test ≡ []
-unfolding chosenBelow
-chosen-none zero test h = refl
-chosen-none (suc n) test h = rw (chosen-none n test (λ x l. h x (omega arith)), h n (omega arith))
 
 chosen-one : (n p : ℕ) (test : ℕ → Bool) → p < n → test p ≡ true → ((x : ℕ) → x < n → test x ≡ true → x ≡ p) → chosenBelow n test ≡ p ∷ []
 unfolding chosenBelow

@@ -10,9 +10,10 @@ use lib.IntN.{ℤ, pos, negℤ, _+ℤ_, _-ℤ_, +ℤ-assoc, +ℤ-comm, negℤ-+�
 use borrow.Table.Steps.{cases}
 use Rattle.metering.specs.Sum.{sumBelow}
 use Rattle.ledger.specs.Method.{Cell, overRunDates}
-use Rattle.ledger.specs.Net.{chosenBelow, sumOver, anyOf, signedSum, isN, netPeriod, markOf, netTot, netTot7, netOn}
+use Rattle.ledger.specs.Net.{sumOver, anyOf, signedSum, isN, netPeriod, markOf, netTot, netTot7, netOn}
 use Rattle.ledger.specs.Engine.{Every}
 use Rattle.ledger.proofs.Lists.{sumBelow-cong, sumBelow-none, sumBelow-plus, tabulate-ext}
+use Rattle.ledger.proofs.Chosen.{every-append}
 
 -- ---- differences
 
@@ -97,33 +98,6 @@ anyOf-cong : (cs : List ℕ) (f g : ℕ → Bool) (P : ℕ → Type 0) → Every
 unfolding anyOf
 anyOf-cong [] f g P all h = refl
 anyOf-cong (c ∷ cs) f g P all h = rw (h c (all .0), anyOf-cong cs f g P (all .1) h)
-
--- ---- chosen numbers
-
-every-append : (P : ℕ → Type 0) (cs ds : List ℕ) → Every P cs → Every P ds → Every P (cs ++ ds)
-every-append P [] ds a b = b
-every-append P (c ∷ cs) ds a b = (a .0, every-append P cs ds (a .1) b)
-
-every-more : (P Q : ℕ → Type 0) (cs : List ℕ) → Every P cs → ((c : ℕ) → P c → Q c) → Every Q cs
-every-more P Q [] a h = tt
-every-more P Q (c ∷ cs) a h = (h c (a .0), every-more P Q cs (a .1) h)
-
--- each is below the limit and passes the test
-pub chosen-pass : (n : ℕ) (test : ℕ → Bool) → Every (λ c. (c < n) × (test c ≡ true)) (chosenBelow n test)
-unfolding chosenBelow
-chosen-pass zero test = tt
-chosen-pass (suc n) test =
-    every-append (λ c. (c < suc n) × (test c ≡ true)) (chosenBelow n test) (cond (test n) (n ∷ []) [])
-    (every-more _ _ (chosenBelow n test) (chosen-pass n test) (λ c p. (omega (arith, p .0), p .1)))
-    (cases (test n) (λ q. rw q ((omega arith, q), tt)) (λ q. rw q tt))
-
-pub chosen-below : (n : ℕ) (test : ℕ → Bool) → Every (λ c. c < n) (chosenBelow n test)
-chosen-below n test = every-more _ _ (chosenBelow n test) (chosen-pass n test) (λ c p. p .0)
-
-pub chosen-cong : (n : ℕ) (f g : ℕ → Bool) → ((c : ℕ) → c < n → f c ≡ g c) → chosenBelow n f ≡ chosenBelow n g
-unfolding chosenBelow
-chosen-cong zero f g h = refl
-chosen-cong (suc n) f g h = rw (chosen-cong n f g (λ c l. h c (omega arith)), h n (omega arith))
 
 -- ---- a net over two lists of categories
 

@@ -5,15 +5,17 @@ use mathlib.Core.Logic.{_≢_, _↔_, _⊎_}
 use mathlib.Core.Bool.{Bool, true, false, cond}
 use mathlib.Core.List.{List, [], _∷_, _++_, map}
 use mathlib.Core.Option.{some}
-use lib.ListN.{length, getD}
+use lib.Dec.{eqb}
+use lib.ListN.{length, getD, take}
 use lib.IntN.{ℤ, pos, negℤ, _+ℤ_, _-ℤ_}
 use Rattle.metering.specs.Mpan.{mpanValid}
 use Rattle.metering.specs.Calendar.{durationKnown}
 use Rattle.metering.specs.Sum.{sumBelow}
 use Rattle.ledger.specs.Method.{Category, freshIn, A, D, E, N, Cell, cellFrom, latest}
-use Rattle.ledger.specs.Net.{activeImport, activeExport, onSide, sumOver, netOn}
+use Rattle.ledger.specs.Net.{activeImport, activeExport, onSide, sumOver, anyOf, netOn}
+use Rattle.ledger.specs.Band.{BandCall}
 use Rattle.ledger.specs.Checks.{Registration, ReceptionCall, endMinute, quality, wattHoursAt, openingCheck, NetCall, mayNet}
-use Rattle.ledger.specs.Ledger.{Opening, categories, dates, periods, category, dayType, Ledger, receive, run, readTotals, readCell, refused, accepted, moved, Lengths, metersShort, anyShort, meterWith, currentOf, cellAt, dayOf, isRun, pictureOf, afterRun, totalsAt, sideAt, netAt, ledgerAnswer}
+use Rattle.ledger.specs.Ledger.{Opening, categories, dates, periods, category, dayType, Ledger, receive, run, readTotals, readCell, refused, accepted, moved, Lengths, metersShort, anyShort, meterWith, currentOf, cellAt, dayOf, isRun, pictureOf, afterRun, totalsAt, sideAt, netAt, bandAt, ledgerAnswer}
 use Rattle.ledger.specs.Engine.{Every}
 
 -- ---- Demand 2, reception: a meter day is accepted exactly when the conditions hold
@@ -163,3 +165,37 @@ SidesExchanged =
     let exchanged = netOn periods isRun cell exports imports d in
     (exchanged .tot ≡ negℤ (net .tot)) × (exchanged .tot7 ≡ negℤ (net .tot7)) × (exchanged .periods ≡ map negℤ (net .periods)) × (exchanged .marks ≡ net .marks)
     × (negℤ (pos 0) ≡ pos 0)
+
+-- ---- Band searches (change request 2026-14)
+
+-- what it takes for a date to be found
+pub record InBand (l : Ledger) (a : BandCall) (d : ℕ) : Type 0 where
+  pub a-date : d < dates (l .opening)
+  pub is-run : isRun l d ≡ true
+  pub of-type : dayType (l .opening) d ≡ a .dayType
+  pub known-type : (1 ≤ a .dayType) × (a .dayType ≤ 16)
+  pub within : (a .least ≤ totalsAt l d (a .category) .tot) × (totalsAt l d (a .category) .tot ≤ a .most)
+
+-- the same search with a list that has room for every date
+abbrev pub withRoom : ℕ → BandCall → BandCall
+withRoom n a = record { category = a .category; dayType = a .dayType; least = a .least; most = a .most; room = n }
+
+abbrev pub allDates : Ledger → BandCall → List ℕ
+allDates l a = bandAt l (withRoom (dates (l .opening)) a) .dates
+
+-- each number is below those after it
+abbrev pub Upward : List ℕ → Type 0
+Upward [] = Unit {0}
+Upward (x ∷ xs) = Every (λ y. x < y) xs × Upward xs
+
+-- such a list has exactly the dates within the band, each once, upward
+abbrev pub BandExact : Type 0
+BandExact = (l : Ledger) (a : BandCall) → ((d : ℕ) → (anyOf (allDates l a) (eqb d) ≡ true) ↔ InBand l a d) × Upward (allDates l a)
+
+-- any other list gets the first of them, as many as it holds; the numbers are those of the dates written and of all
+abbrev pub BandCounts : Type 0
+BandCounts =
+    (l : Ledger) (a : BandCall) →
+    (bandAt l a .dates ≡ take (a .room) (allDates l a))
+    × (bandAt l a .written ≡ length (bandAt l a .dates))
+    × (bandAt l a .found ≡ length (allDates l a))

@@ -8,7 +8,8 @@ use lib.ListN.{length}
 use Rattle.metering.specs.Sum.{sumBelow}
 use Rattle.ledger.specs.Method.{Category, ReadingSet, Picture, freshIn, Cell, Day, notRun, ran, cellOn, movedCell, Totals, totalsOn}
 use Rattle.ledger.specs.Net.{activeImport, activeExport, sideOf, Net, netOn}
-use Rattle.ledger.specs.Checks.{Registration, RegistrationCall, ReceptionCall, Verdict, verdict, registered, startOf, inForce, registrationCheck, receptionCheck, readingIn, anyBelow, runCheck, readCheck, totalsInRange, cellInRange, NetCall, resultsShort, mayNet, netCheck}
+use Rattle.ledger.specs.Band.{BandCall, Band, bandOn}
+use Rattle.ledger.specs.Checks.{Registration, RegistrationCall, ReceptionCall, Verdict, verdict, registered, startOf, inForce, registrationCheck, receptionCheck, readingIn, anyBelow, runCheck, readCheck, totalsInRange, cellInRange, NetCall, resultsShort, mayNet, netCheck, bandCheck}
 use Rattle.ledger.specs.Sizes.{settingsLength, metersLength, readingsLength, cellsLength}
 pub use Rattle.ledger.specs.Opening.{Opening, categories, dates, periods, category, dayType}
 
@@ -39,6 +40,7 @@ pub data Call : Type 0 where
   readTotals : ℕ → ℕ → Call
   readCell : ℕ → ℕ → ℕ → Call
   readNet : NetCall → Call
+  searchBand : BandCall → Call
 
 -- a refusal has its number and place
 pub data Answer : Type 0 where
@@ -48,6 +50,7 @@ pub data Answer : Type 0 where
   totalsAre : Totals → Answer
   cellIs : Cell → Answer
   netIs : Net → Answer
+  bandIs : Band → Answer
 
 -- the first failed check's answer, or that of the accepted call
 unfoldable pub answer : Verdict → Answer → Answer
@@ -241,6 +244,13 @@ unfoldable pub netAt : Ledger → NetCall → Net
 netAt l a =
     netOn (periods (l .opening)) (isRun l) (cellAt l) (sideAt l (a .allGroups) activeImport (a .category)) (sideAt l (a .allGroups) activeExport (a .category)) (a .date)
 
+-- a band search has no date: 9 and 14 are none of its checks
+unfoldable pub ledgerBandCheck : Ledger → Lengths → BandCall → Verdict
+ledgerBandCheck l n a = verdict (bandCheck (cellsShort (l .opening) n) (totalsInRange (categories (l .opening)) (a .category)))
+
+unfoldable pub bandAt : Ledger → BandCall → Band
+bandAt l a = bandOn (dates (l .opening)) (isRun l) (dayType (l .opening)) (λ d. totalsAt l d (a .category) .tot) a
+
 -- ---- a call
 
 unfoldable pub ledgerAnswer : Ledger → Lengths → Call → Answer
@@ -250,6 +260,7 @@ ledgerAnswer l n (run d) = answer (ledgerRunCheck l n d) (moved (movedBetween (l
 ledgerAnswer l n (readTotals d c) = answer (ledgerTotalsCheck l n d c) (totalsAre (totalsAt l d c))
 ledgerAnswer l n (readCell d c j) = answer (ledgerCellCheck l n d c j) (cellIs (cellAt l d c j))
 ledgerAnswer l n (readNet a) = answer (ledgerNetCheck l n a) (netIs (netAt l a))
+ledgerAnswer l n (searchBand a) = answer (ledgerBandCheck l n a) (bandIs (bandAt l a))
 
 unfoldable pub ledgerAfter : Ledger → Lengths → Call → Ledger
 ledgerAfter l n (register a) = left (ledgerRegistrationCheck l n a) l (afterRegistration l a)
@@ -258,3 +269,4 @@ ledgerAfter l n (run d) = left (ledgerRunCheck l n d) l (afterRun l d)
 ledgerAfter l n (readTotals d c) = l
 ledgerAfter l n (readCell d c j) = l
 ledgerAfter l n (readNet a) = l
+ledgerAfter l n (searchBand a) = l

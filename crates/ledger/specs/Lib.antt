@@ -2,6 +2,7 @@
 pub mod Method
 pub mod Table
 pub mod Net
+pub mod Band
 pub mod Opening
 pub mod Checks
 pub mod Sizes

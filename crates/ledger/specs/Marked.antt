@@ -1,4 +1,4 @@
--- The scope paper's marked list as one computed check; its worked example and one of nets as computed runs of the ledger.
+-- The scope paper's marked list as one computed check; its worked example, one of nets and one of bands as computed runs of the ledger.
 use Prim.Native.Nat.{ℕ, zero, suc, _/_, _%_}
 use mathlib.Core.Path.{_≡_, refl}
 use mathlib.Core.Bool.{Bool, true, false, not, _&&_, Bool·beq}
@@ -10,14 +10,15 @@ use lib.ListN.{replicate}
 use Rattle.metering.specs.Sum.{sumBelow}
 use Rattle.metering.specs.Mpan.{mpanValid, checkDigit, weightedSum, product, digit, weights}
 use Rattle.metering.specs.Average.{average, annual}
-use Rattle.metering.specs.Range.{between}
+use Rattle.metering.specs.Range.{between, dayTypeValid}
 use Rattle.metering.specs.Calendar.{periodsPerDay, periodEnding, liesWithin, windowStart, windowEnd}
 use Rattle.ledger.specs.Method.{Category, categoryAt, isSmart, sameFamily, HeldSet, Picture, total, isEnough, freshOf, freshIn, Cell, D, blank, carried, cellFrom, ran, afterDate, latest, cellOf, cellOn, sameCell, movedCell, overRunDates, totOn, offOn, peakOn, totalsOn}
-use Rattle.ledger.specs.Table.{tabulate}
-use Rattle.ledger.specs.Net.{onSide, chosenBelow, sideOf, sumOver, anyOf, signedSum, netPeriod, markOf, netTot, netTot7, netOn}
-use Rattle.ledger.specs.Checks.{firstFailed, anyBelow, orElse, firstNumber, callNumber, contentNumber, recordNumberIf, recordNumber, endMinute, quality, wattHoursAt, startOf, later, inForceAfter, inForce, notAfterLast, fieldsNumber, knownNumber, meterNumber, registrationCheck, headerNumber, bodyCheck, inForceCheck, receptionCheck, isReading, readingIn, runCheck, readCheck, totalsInRange, cellInRange, resultsShort, mayNet, netCheck}
+use Rattle.ledger.specs.Table.{tabulate, chosenBelow}
+use Rattle.ledger.specs.Net.{onSide, sideOf, sumOver, anyOf, signedSum, netPeriod, markOf, netTot, netTot7, netOn}
+use Rattle.ledger.specs.Band.{inBand, bandDates, bandOn}
+use Rattle.ledger.specs.Checks.{firstFailed, anyBelow, orElse, firstNumber, callNumber, contentNumber, recordNumberIf, recordNumber, endMinute, quality, wattHoursAt, startOf, later, inForceAfter, inForce, notAfterLast, fieldsNumber, knownNumber, meterNumber, registrationCheck, headerNumber, bodyCheck, inForceCheck, receptionCheck, isReading, readingIn, runCheck, readCheck, totalsInRange, cellInRange, resultsShort, mayNet, netCheck, bandCheck}
 use Rattle.ledger.specs.Sizes.{settingsLength, metersLength, readingsLength, cellsLength}
-use Rattle.ledger.specs.Ledger.{Opening, Ledger, start, Call, register, receive, run, readTotals, readCell, readNet, Answer, refused, accepted, moved, totalsAre, netIs, answer, left, Lengths, leastLengths, settingsShort, metersShort, cellsShort, anyShort, meterWith, changed, heldFrom, ledgerRegistrationCheck, registerIn, afterRegistration, ledgerReceptionCheck, setOf, at, afterReception, cellBy, cellAt, isRun, ledgerRunCheck, pictureOf, afterRun, movedBetween, ledgerTotalsCheck, ledgerCellCheck, totalsAt, ledgerNetCheck, sideAt, netAt, ledgerAnswer, ledgerAfter}
+use Rattle.ledger.specs.Ledger.{Opening, Ledger, start, Call, register, receive, run, readTotals, readCell, readNet, searchBand, Answer, refused, accepted, moved, totalsAre, netIs, bandIs, answer, left, Lengths, leastLengths, settingsShort, metersShort, cellsShort, anyShort, meterWith, changed, heldFrom, ledgerRegistrationCheck, registerIn, afterRegistration, ledgerReceptionCheck, setOf, at, afterReception, cellBy, cellAt, isRun, ledgerRunCheck, pictureOf, afterRun, movedBetween, ledgerTotalsCheck, ledgerCellCheck, totalsAt, ledgerNetCheck, sideAt, netAt, ledgerBandCheck, bandAt, ledgerAnswer, ledgerAfter}
 
 -- the test holds of the n periods from 1 on
 unfoldable pub everyPeriod : ℕ → (ℕ → Bool) → Bool
@@ -125,10 +126,10 @@ netOpening =
 abbrev pub registers : ℕ → ℕ → Call
 registers mpan c = register (record { mpan = mpan; date = 0; minute = 0; category = c; sender = 7; status = 1; limit = 10000 })
 
-abbrev pub sends : ℕ → ℕ → List ℕ → Call
-sends mpan quantity body = receive (record { sender = 7; mpan = mpan; date = 0; duration = 30; quantity = quantity; body = body })
+abbrev pub sends : ℕ → ℕ → ℕ → List ℕ → Call
+sends mpan date quantity body = receive (record { sender = 7; mpan = mpan; date = date; duration = 30; quantity = quantity; body = body })
 
--- a record of quality 1 with fewer than 512 Wh
+-- a record of quality 1 with fewer than 65,536 Wh
 abbrev pub half : ℕ → ℕ → List ℕ → List ℕ
 half end wh rest = 0 ∷ end ∷ 1 ∷ 0 ∷ 0 ∷ wh / 256 ∷ wh % 256 ∷ rest
 
@@ -141,9 +142,9 @@ netCalls =
     registers 1000000000003 0
     ∷ registers 1010000000000 1
     ∷ registers 29 2
-    ∷ sends 1000000000003 1 (half 30 400 (half 60 100 (half 90 50 [])))
-    ∷ sends 1010000000000 2 (half 30 150 (half 60 350 []))
-    ∷ sends 29 1 (half 30 200 [])
+    ∷ sends 1000000000003 0 1 (half 30 400 (half 60 100 (half 90 50 [])))
+    ∷ sends 1010000000000 0 2 (half 30 150 (half 60 350 []))
+    ∷ sends 29 0 1 (half 30 200 [])
     ∷ run 0
     ∷ asksNet false 0 0
     ∷ asksNet false 0 2
@@ -177,10 +178,63 @@ netAnswers =
     ∷ netOf (pos 50) (pos 100) (pos 250) (negsuc 249) (pos 50) 0 0 1
     ∷ []
 
--- ---- both, computed
+-- ---- a worked example of bands (change request 2026-14)
+
+-- five dates, the second of another day type
+abbrev pub bandOpening : Opening
+bandOpening =
+    record { duration = 30; meters = 1; categoryBytes = 1 ∷ 1 ∷ 1 ∷ 1 ∷ 1 ∷ 0 ∷ 0 ∷ 1 ∷ []; dayTypes = 1 ∷ 2 ∷ 1 ∷ 1 ∷ 1 ∷ [] }
+
+abbrev pub sendsDay : ℕ → ℕ → Call
+sendsDay date wh = sends exampleMpan date 1 (half 30 wh [])
+
+abbrev pub asksBand : ℕ → ℕ → ℕ → ℕ → Call
+asksBand dayType least most room = searchBand (record { category = 0; dayType = dayType; least = least; most = most; room = room })
+
+-- TOT is 700, 700, 900 and 650 on dates 0 to 3; date 4 is run later, as a copy of date 3
+abbrev pub bandCalls : List Call
+bandCalls =
+    registers exampleMpan 0
+    ∷ sendsDay 0 700
+    ∷ sendsDay 1 700
+    ∷ sendsDay 2 900
+    ∷ sendsDay 3 650
+    ∷ run 0
+    ∷ run 1
+    ∷ run 2
+    ∷ run 3
+    ∷ asksBand 1 650 700 5
+    ∷ asksBand 1 0 1000 2
+    ∷ asksBand 2 0 1000 2
+    ∷ asksBand 1 701 700 5
+    ∷ asksBand 17 0 1000 5
+    ∷ searchBand (record { category = 1; dayType = 1; least = 701; most = 700; room = 5 })
+    ∷ run 4
+    ∷ asksBand 1 650 650 5
+    ∷ []
+
+abbrev pub bandOf : ℕ → ℕ → List ℕ → Answer
+bandOf written found dates = bandIs (record { written = written; found = found; dates = dates })
+
+abbrev pub bandAnswers : List Answer
+bandAnswers =
+    accepted ∷ accepted ∷ accepted ∷ accepted ∷ accepted
+    ∷ moved 1 ∷ moved 1 ∷ moved 1 ∷ moved 1
+    ∷ bandOf 2 2 (0 ∷ 3 ∷ [])
+    ∷ bandOf 2 3 (0 ∷ 2 ∷ [])
+    ∷ bandOf 1 1 (1 ∷ [])
+    ∷ bandOf 0 0 []
+    ∷ bandOf 0 0 []
+    ∷ refused 15 0
+    ∷ moved 1
+    ∷ bandOf 2 2 (3 ∷ 4 ∷ [])
+    ∷ []
+
+-- ---- all three, computed
 
 pub worked-examples :
     (ledgerRun (start exampleOpening) (leastLengths exampleOpening) exampleCalls ≡ exampleAnswers)
     × (ledgerRun (start netOpening) (leastLengths netOpening) netCalls ≡ netAnswers)
-unfolding ledgerRun start ledgerAnswer ledgerAfter answer left settingsShort metersShort cellsShort anyShort meterWith changed heldFrom ledgerRegistrationCheck registerIn afterRegistration ledgerReceptionCheck setOf at afterReception cellBy cellAt isRun ledgerRunCheck pictureOf afterRun movedBetween ledgerTotalsCheck ledgerCellCheck totalsAt settingsLength metersLength readingsLength cellsLength firstFailed startOf later inForceAfter inForce notAfterLast meterNumber registrationCheck bodyCheck inForceCheck receptionCheck isReading readingIn runCheck readCheck totalsInRange cellInRange movedCell overRunDates totOn offOn peakOn totalsOn categoryAt mpanValid checkDigit weightedSum product digit weights sumBelow average annual recordNumber periodEnding periodsPerDay liesWithin windowStart windowEnd between sameCell blank cellOn cellOf cellFrom latest afterDate freshIn freshOf isEnough total isSmart sameFamily anyBelow endMinute quality wattHoursAt carried netCheck resultsShort mayNet ledgerNetCheck sideAt netAt onSide chosenBelow sideOf sumOver anyOf signedSum netPeriod markOf netTot netTot7 netOn tabulate orElse firstNumber callNumber fieldsNumber knownNumber headerNumber recordNumberIf contentNumber
-worked-examples = (refl, refl)
+    × (ledgerRun (start bandOpening) (leastLengths bandOpening) bandCalls ≡ bandAnswers)
+unfolding ledgerRun start ledgerAnswer ledgerAfter answer left settingsShort metersShort cellsShort anyShort meterWith changed heldFrom ledgerRegistrationCheck registerIn afterRegistration ledgerReceptionCheck setOf at afterReception cellBy cellAt isRun ledgerRunCheck pictureOf afterRun movedBetween ledgerTotalsCheck ledgerCellCheck totalsAt settingsLength metersLength readingsLength cellsLength firstFailed startOf later inForceAfter inForce notAfterLast meterNumber registrationCheck bodyCheck inForceCheck receptionCheck isReading readingIn runCheck readCheck totalsInRange cellInRange movedCell overRunDates totOn offOn peakOn totalsOn categoryAt mpanValid checkDigit weightedSum product digit weights sumBelow average annual recordNumber periodEnding periodsPerDay liesWithin windowStart windowEnd between sameCell blank cellOn cellOf cellFrom latest afterDate freshIn freshOf isEnough total isSmart sameFamily anyBelow endMinute quality wattHoursAt carried netCheck resultsShort mayNet ledgerNetCheck sideAt netAt onSide chosenBelow sideOf sumOver anyOf signedSum netPeriod markOf netTot netTot7 netOn tabulate orElse firstNumber callNumber fieldsNumber knownNumber headerNumber recordNumberIf contentNumber bandCheck ledgerBandCheck bandAt bandOn bandDates inBand dayTypeValid
+worked-examples = (refl, refl, refl)

@@ -168,6 +168,13 @@ flagNumber D = 2
 flagNumber E = 3
 flagNumber N = 4
 
+-- a flag's letter in ASCII
+abbrev pub letterOf : Flag → ℕ
+letterOf A = 65
+letterOf D = 68
+letterOf E = 69
+letterOf N = 78
+
 -- whether value, flag, count and origin are all alike
 unfoldable pub sameCell : Cell → Cell → Bool
 sameCell a b = eqb (flagNumber (a .flag)) (flagNumber (b .flag)) && eqb (a .value) (b .value) && eqb (a .count) (b .count) && eqb (a .origin) (b .origin)

@@ -6,7 +6,7 @@ use mathlib.Core.List.{List, [], _∷_, _++_}
 use lib.Dec.{leb, eqb}
 use lib.IntN.{ℤ, pos, _+ℤ_, _-ℤ_}
 use Rattle.ledger.specs.Method.{Category, sameFamily, Flag, isBlank, Cell}
-use Rattle.ledger.specs.Table.{tabulate}
+use Rattle.ledger.specs.Table.{tabulate, chosenBelow}
 
 -- ---- which categories are summed
 
@@ -33,11 +33,6 @@ withQuantity quantity a =
 -- of a's group, unless all groups are pooled
 unfoldable pub onSide : Bool → ℕ → Category → Category → Bool
 onSide allGroups quantity a b = sameFamily (withQuantity quantity a) b && (allGroups || eqb (a .group) (b .group))
-
--- the numbers below n that pass a test, upward
-unfoldable pub chosenBelow : ℕ → (ℕ → Bool) → List ℕ
-chosenBelow zero test = []
-chosenBelow (suc n) test = chosenBelow n test ++ cond (test n) (n ∷ []) []
 
 -- the categories on a side, of the `categories` that there are
 unfoldable pub sideOf : (ℕ → Category) → ℕ → Bool → ℕ → ℕ → List ℕ

@@ -1,5 +1,6 @@
--- Lists made from a function of the place.
+-- Lists made from a function of the place, and of the numbers that pass a test.
 use Prim.Native.Nat.{ℕ, zero, suc}
+use mathlib.Core.Bool.{Bool, cond}
 use mathlib.Core.List.{List, [], _∷_, _++_}
 use lib.ListN.{drop}
 
@@ -11,3 +12,8 @@ module _ {A : Type 0} where
   -- the first k places have f's values, the others stand
   unfoldable pub filling : ℕ → (ℕ → A) → List A → List A
   filling k f xs = tabulate k f ++ drop k xs
+
+-- the numbers below n that pass a test, upward
+unfoldable pub chosenBelow : ℕ → (ℕ → Bool) → List ℕ
+chosenBelow zero test = []
+chosenBelow (suc n) test = chosenBelow n test ++ cond (test n) (n ∷ []) []

@@ -15,7 +15,7 @@ use Rattle.ledger.specs.Store.{categoriesOf, periodsOf, rowLength, isRunAt}
 use Rattle.ledger.specs.Calls.{cellFor, sideFor, netVerdict, netFor, overwritten}
 use Rattle.ledger.specs.Engine.{Every}
 use Rattle.ledger.proofs.Lists.{length-tabulate}
-use Rattle.ledger.proofs.Nets.{chosen-below}
+use Rattle.ledger.proofs.Chosen.{chosen-below}
 use Rattle.ledger.proofs.Verdicts.{refused-is, kept-is, given-is, after-is}
 use Rattle.store.specs.declared.column.Column.{Column}
 use Rattle.store.specs.Column.{columnOf}

@@ -10,7 +10,9 @@ use native.Mathlib.Numerals.{add-one}
 use lib.ListN.{length, getD, set, take, length-append, length-set}
 use lib.Seq.{take-suc, take-suc-set, length-take-le}
 use borrow.Table.Steps.{cases}
-use Rattle.ledger.specs.Net.{sumOver, chosenBelow}
+use Rattle.ledger.specs.Net.{sumOver}
+use Rattle.ledger.specs.Table.{chosenBelow}
+use Rattle.ledger.proofs.Chosen.{chosen-few}
 use Rattle.ledger.proofs.Nets.{sumOver-append, sumOver-one, sumOver-none}
 use borrow.Author.Tests.{eq-eqb, ne-eqb}
 use Rattle.reads.specs.Sums.{Figure}
@@ -70,13 +72,6 @@ found-next test b found found′ count count′ chosen so-far is next =
       few = next .few;
       long = next .long;
     }
-
-chosen-few : (n : ℕ) (test : ℕ → Bool) → length (chosenBelow n test) ≤ n
-unfolding chosenBelow
-chosen-few zero test = omega arith
-chosen-few (suc n) test =
-    let h = chosen-few n test in
-    rw (length-append (chosenBelow n test)) (cases (test n) (λ q. rw q (omega arith)) (λ q. rw q (omega arith)))
 
 -- as many as the array's front is long
 pub found-count : {side found : List ℕ} {count : ℕ} → Listed side found count → length side ≡ count

@@ -3,8 +3,8 @@ use Prim.Native.Nat.{ℕ, _+_, _/_, _%_}
 use mathlib.Core.Bool.{cond}
 use mathlib.Core.List.{List, [], _∷_, _++_}
 use lib.Dec.{eqb}
-use Rattle.ledger.specs.Method.{Flag, A, D, E, N, Cell, Totals}
-use Rattle.ledger.specs.Ledger.{Answer, refused, accepted, moved, totalsAre, cellIs, netIs}
+use Rattle.ledger.specs.Method.{letterOf, Cell, Totals}
+use Rattle.ledger.specs.Ledger.{Answer, refused, accepted, moved, totalsAre, cellIs, netIs, bandIs}
 use Rattle.output.specs.Text.{numberWord, energyWord}
 
 abbrev pub newline : List ℕ
@@ -32,12 +32,6 @@ totalsText t =
     (numberWord (t .days7) ++ (energyWord (t .ann) ++ (numberWord (t .days) ++
     (numberWord (t .fresh) ++ numberWord (t .blanks))))))
 
-abbrev pub letterOf : Flag → ℕ
-letterOf A = 65
-letterOf D = 68
-letterOf E = 69
-letterOf N = 78
-
 -- `-` stands for no date
 abbrev pub originWord : ℕ → List ℕ
 originWord origin = cond (eqb origin 65535) (32 ∷ 45 ∷ []) (numberWord origin)
@@ -45,11 +39,12 @@ originWord origin = cond (eqb origin 65535) (32 ∷ 45 ∷ []) (numberWord origi
 abbrev pub cellText : Cell → List ℕ
 cellText a = (32 ∷ letterOf (a .flag) ∷ []) ++ (energyWord (a .value) ++ (numberWord (a .count) ++ originWord (a .origin)))
 
--- the line for an answer to the command; none asks for a net
+-- the line for an answer to the command; none asks for a net or a band
 unfoldable pub answerLine : ℕ → Answer → List ℕ
 answerLine code accepted = acceptedText code ++ newline
 answerLine code (moved m) = acceptedText code ++ (numberWord m ++ newline)
 answerLine code (totalsAre t) = acceptedText code ++ (totalsText t ++ newline)
 answerLine code (cellIs a) = acceptedText code ++ (cellText a ++ newline)
 answerLine code (netIs n) = []
+answerLine code (bandIs b) = []
 answerLine code (refused number place) = refusedLine code number place

@@ -4,7 +4,7 @@ use crate::append::append_byte;
 use crate::append::append_energy;
 use crate::append::append_number;
 use entries::cell::Cell;
-use entries::cell::Flag;
+use entries::cell::letter;
 use store::outcome::CellOutcome;
 use store::outcome::Outcome;
 use store::outcome::RunOutcome;
@@ -14,9 +14,9 @@ ghost use mathlib.Core.Path.{_≡_};
 ghost use Prim.Native.Nat.{_+_, _≤_};
 ghost use lib.ListN.{length};
 ghost use Rattle.store.specs.Outcome.{answerOf, runAnswer, totalsMeant, totalsAnswer, cellAnswer};
-ghost use Rattle.entries.specs.Cell.{flagMeant, cellMeant};
+ghost use Rattle.entries.specs.Cell.{cellMeant};
 ghost use Rattle.output.specs.Text.{Appended};
-ghost use Rattle.output.specs.Lines.{commandText, acceptedText, refusedLine, energiesText, totalsText, letterOf, originWord, cellText, answerLine};
+ghost use Rattle.output.specs.Lines.{commandText, acceptedText, refusedLine, energiesText, totalsText, originWord, cellText, answerLine};
 
 // The command's byte in hex.
 fn append_command(out: &mut [u8], at: usize, code: u8) -> usize
@@ -112,17 +112,6 @@ pub fn append_totals(out: &mut [u8], at: usize, outcome: TotalsOutcome) -> usize
             append_byte(out, next, b'\n')
         }
         TotalsOutcome::Refused { number, place } => append_refused(out, at, 0x17, number, place),
-    }
-}
-
-fn letter(flag: Flag) -> u8
-    ensures { λ r. ⌜ r ≡ letterOf (flagMeant flag) ⌝ }
-{
-    match flag {
-        Flag::A => b'A',
-        Flag::D => b'D',
-        Flag::E => b'E',
-        Flag::N => b'N',
     }
 }
 

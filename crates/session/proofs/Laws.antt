@@ -1,11 +1,9 @@
--- An answer behind what waits, and the length of what an 11 or a 12 brings.
-use Prim.Native.Nat.{ℕ, _+_, _≤_}
+-- An answer behind what waits.
+use Prim.Native.Nat.{ℕ}
 use mathlib.Core.Path.{_≡_, sym, ap, _∙_}
 use mathlib.Core.Bool.{Bool, true, false, cond}
 use mathlib.Core.List.{List, [], _++_, append-nil}
-use native.Mathlib.Omega.{arith}
-use lib.ListN.{length, take, drop, length-drop}
-use lib.Seq.{length-take-le}
+use lib.ListN.{take}
 use Rattle.output.specs.Text.{Appended}
 use Rattle.commands.specs.Commands.{State, code, lineFor}
 use Rattle.commands.specs.declared.capacity.Capacity.{Capacity}
@@ -34,8 +32,3 @@ module _ (capacity : Capacity) (s : State) (b : List ℕ) where
 
   pub day-type-printed : (waited : List ℕ) → code b ≡ 18 → Printed waited (lineFor capacity s b) waited
   day-type-printed waited e = silent waited (day-type-silent capacity s b e)
-
--- ---- operands
-
-pub operand-length : (n : ℕ) (command : List ℕ) → n + 1 ≤ length command → length (take n (drop 1 command)) ≡ n
-operand-length n command h = length-take-le n (drop 1 command) (rw (length-drop 1 command) (omega arith))

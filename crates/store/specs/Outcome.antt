@@ -4,7 +4,7 @@ use mathlib.Core.List.{List}
 use lib.IntN.{ℤ}
 use lib.ListN.{take}
 use Rattle.ledger.specs.Method as method
-use Rattle.ledger.specs.Ledger.{Answer, refused, accepted, moved, totalsAre, cellIs, netIs}
+use Rattle.ledger.specs.Ledger.{Answer, refused, accepted, moved, totalsAre, cellIs, netIs, bandIs}
 use Rattle.entries.specs.Cell.{cellMeant}
 use Rattle.store.specs.declared.outcome.Outcome.{Outcome}
 use Rattle.store.specs.declared.outcome.Outcome.the-variants as outcome
@@ -17,6 +17,8 @@ use Rattle.store.specs.declared.outcome.CellOutcome.{CellOutcome}
 use Rattle.store.specs.declared.outcome.CellOutcome.the-variants as cell
 use Rattle.store.specs.declared.outcome.NetOutcome.{NetOutcome}
 use Rattle.store.specs.declared.outcome.NetOutcome.the-variants as net
+use Rattle.store.specs.declared.outcome.BandOutcome.{BandOutcome}
+use Rattle.store.specs.declared.outcome.BandOutcome.the-variants as band
 
 abbrev pub answerOf : Outcome → Answer
 answerOf outcome.Accepted = accepted
@@ -54,3 +56,8 @@ cellAnswer (cell.Refused number place) = refused number place
 abbrev pub netAnswer : ℕ → NetOutcome → List ℤ → List ℕ → Answer
 netAnswer P (net.Net n) numbers marks = netIs (record { tot = n .tot; tot7 = n .tot7; periods = take P numbers; marks = take P marks })
 netAnswer P (net.Refused number place) numbers marks = refused number place
+
+-- the numbers as returned, the dates written as the list then has them
+abbrev pub bandAnswer : BandOutcome → List ℕ → Answer
+bandAnswer (band.Band b) dates = bandIs (record { written = b .written; found = b .found; dates = take (b .written) dates })
+bandAnswer (band.Refused number place) dates = refused number place

@@ -47,3 +47,14 @@ pub enum NetOutcome {
     Net(Net),
     Refused { number: u64, place: u64 },
 }
+
+// How many dates stand in the list lent for them, and how many there are.
+pub struct Band {
+    pub written: u64,
+    pub found: u64,
+}
+
+pub enum BandOutcome {
+    Band(Band),
+    Refused { number: u64, place: u64 },
+}

@@ -3,9 +3,10 @@ use native.Mathlib.Omega.{arith}
 use denote.Ref.{now}
 use mathlib.Core.Path.{refl, sym}
 use lib.Seq.{length-take-le}
+use Rattle.ledger.proofs.Lists.{part-length}
 use Rattle.commands.specs.Commands.{State}
 use Rattle.commands.proofs.Laws.{some-there, opening-there, category-there, day-type-there, collects-category, collects-day-type, uses-up, asks, opening-appended, asked-appended}
-use Rattle.session.proofs.Laws.{line-printed, operand-length, category-printed, day-type-printed}
+use Rattle.session.proofs.Laws.{line-printed, category-printed, day-type-printed}
 use Rattle.session.specs.Session.{stateOf}
 use borrow.Author.Needs.{needs}
 use Rattle.session.proofs.obey.Statement.{statement}
@@ -66,7 +67,7 @@ append-requires : tie.Need-append-requires
 append-requires c κs =
     let s = collecting (c .before .before) in
     let code = c .before .before .if1 .taken in
-    omega (arith, s .pre .1 .1 .category code, operand-length 8 (now (s .args .command)) (category-there _ (s .pre .0) code))
+    omega (arith, s .pre .1 .1 .category code, part-length (now (s .args .command)) 1 8 (omega (arith, category-there _ (s .pre .0) code)))
 
 same-length : tie.Need-same-length
 same-length c = search needs
@@ -77,7 +78,7 @@ returns c =
     let s = collecting t in
     let held = s .pre .1 .0 in
     let code = t .if1 .taken in
-    let more = operand-length 8 (now (s .args .command)) (category-there _ (s .pre .0) code) in
+    let more = part-length (now (s .args .command)) 1 8 (omega (arith, category-there _ (s .pre .0) code)) in
     let put = c .before .before .append .ensures in (
       record {
         line = held .line;
@@ -101,7 +102,7 @@ append-requires-2 : tie.Need-append-requires-2
 append-requires-2 c κs =
     let s = collecting-day-type (c .before .before) in
     let code = c .before .before .if2 .taken in
-    omega (arith, s .pre .1 .1 .dayType code, operand-length 1 (now (s .args .command)) (day-type-there _ (s .pre .0) code))
+    omega (arith, s .pre .1 .1 .dayType code, part-length (now (s .args .command)) 1 1 (omega (arith, day-type-there _ (s .pre .0) code)))
 
 same-length-2 : tie.Need-same-length-2
 same-length-2 c = search needs
@@ -112,7 +113,7 @@ returns-2 c =
     let s = collecting-day-type t in
     let held = s .pre .1 .0 in
     let code = t .if2 .taken in
-    let more = operand-length 1 (now (s .args .command)) (day-type-there _ (s .pre .0) code) in
+    let more = part-length (now (s .args .command)) 1 1 (omega (arith, day-type-there _ (s .pre .0) code)) in
     let put = c .before .before .append2 .ensures in (
       record {
         line = held .line;

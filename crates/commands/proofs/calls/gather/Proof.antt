@@ -6,7 +6,7 @@ use mathlib.Core.Path.{_≡_, sym}
 use native.Mathlib.Omega.{arith}
 use lib.ListN.{length, take}
 use Rattle.input.specs.Operands.{bodyOf}
-use Rattle.commands.proofs.Laws.{no-bodies, part-length, body-step}
+use Rattle.commands.proofs.Laws.{no-bodies, record-length, body-step}
 use Rattle.commands.proofs.calls.gather.Statement.{statement}
 use Rattle.commands.proofs.calls.gather.Tie as tie
 
@@ -48,7 +48,7 @@ part-append-end c = search needs
 
 append-requires : tie.Need-append-requires Inv-loop μ-loop
 append-requires c κs =
-    omega (arith, part-length (now (start (at-loop c) .args .command)) (at-loop c .loop .from) (omega arith))
+    omega (arith, record-length (now (start (at-loop c) .args .command)) (at-loop c .loop .from) (omega arith))
 
 add-from : tie.Need-add-from Inv-loop μ-loop
 add-from c = search needs
@@ -63,7 +63,7 @@ loop-again : tie.Need-loop-again Inv-loop μ-loop
 loop-again c =
     let l = at-loop (after-append-arg2 c) .loop in
     let command = now (start (at-loop (after-append-arg2 c)) .args .command) in
-    let part = part-length command (l .from) (omega arith) in (
+    let part = record-length command (l .from) (omega arith) in (
       body-step command (l .body) _ (l .from) (l .to) (l .taken) _ (l .inv .2) (l .inv .0) (c .before .before .append .ensures),
       omega (arith, part, c .before .before .append .ensures .end),
       omega arith,

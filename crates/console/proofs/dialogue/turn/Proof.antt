@@ -8,10 +8,11 @@ use lib.ListN.{length, getD, take, drop}
 use lib.Dec.{leb, ltb}
 use borrow.Author.Tests.{leb-true, ltb-true}
 use denote.Ref.{now}
+use Rattle.ledger.proofs.Lists.{part-length}
 use Rattle.input.specs.Form.{commandLength, isOverfull, Command}
 use Rattle.commands.specs.Commands.{State}
 use Rattle.session.specs.Session.{stateOf}
-use Rattle.console.proofs.Laws.{window-length, category-room, day-type-room}
+use Rattle.console.proofs.Laws.{category-room, day-type-room}
 use borrow.Author.Needs.{needs}
 use Rattle.console.proofs.dialogue.turn.Statement.{statement}
 use Rattle.console.proofs.dialogue.turn.Tie as tie
@@ -57,7 +58,7 @@ within : (c : tie.After-found) → c .found .given .0 .0 ≤ begun c .args .sess
 within c =
     let a = begun c .args in
     let w = begun c .pre .0 in
-    omega (arith, whole c .0, whole c .1 .whole, window-length (now (a .input)) (a .session .at) (a .session .end) (w .begun) (w .block))
+    omega (arith, whole c .0, whole c .1 .whole, part-length (now (a .input)) (a .session .at) (a .session .end - a .session .at) (omega (arith, w .begun, w .block)))
 
 sub-category-room : tie.Need-sub-category-room
 sub-category-room c = search needs

@@ -1,7 +1,8 @@
 -- `net::sides::members` meets its contract. The invariant: those found so far are the ones chosen below the category reached.
 use Prim.Native.Nat.{_≤_, _-_}
 use native.Mathlib.Omega.{arith}
-use Rattle.ledger.specs.Net.{onSide, chosenBelow, sideOf}
+use Rattle.ledger.specs.Net.{onSide, sideOf}
+use Rattle.ledger.specs.Table.{chosenBelow}
 use Rattle.ledger.specs.Store.{categoryOf}
 use Rattle.ledger.specs.Calls.{sideFor}
 use Rattle.ledger.specs.Ready.{ready}

@@ -1,0 +1,3 @@
+-- Laws that the proofs of the band search share.
+pub mod Laws
+pub mod AnswerLaws

@@ -1,0 +1,34 @@
+-- What a band search is asked, as the ledger's call; a date that is sought; and a list that gets as many dates as it holds.
+use Prim.Native.Nat.{ℕ, _<_}
+use mathlib.Core.Path.{_≡_}
+use mathlib.Core.Bool.{Bool, true, _&&_}
+use mathlib.Core.List.{List}
+use lib.Dec.{leb, eqb}
+use lib.ListN.{length, take}
+use Rattle.ledger.specs.Band.{BandCall}
+use Rattle.ledger.specs.Store.{settingsReady, datesOf, dayTypeOf}
+use Rattle.ledger.specs.Calls.{overwritten}
+use Rattle.store.specs.declared.column.Column.{Column}
+use Rattle.store.specs.Column.{runIn, Reaches}
+use Rattle.reads.specs.Figures.{noPeriod, dayFigures}
+use Rattle.band.specs.declared.dates.Sought.{Sought}
+
+abbrev pub bandCall : ℕ → ℕ → ℕ → ℕ → List ℕ → BandCall
+bandCall category dayType least most dates =
+    record { category = category; dayType = dayType; least = least; most = most; room = length dates }
+
+abbrev pub totIn : Column → List ℕ → ℕ → ℕ
+totIn column cells d = dayFigures column noPeriod cells d .tot
+
+abbrev pub isSought : List ℕ → List ℕ → Column → Sought → ℕ → Bool
+isSought settings cells column sought d =
+    runIn column cells d && eqb (dayTypeOf settings d) (sought .«day_type») && leb (sought .least) (totIn column cells d)
+    && leb (totIn column cells d) (sought .most)
+
+-- the first of some dates, as many as there is room for
+unfoldable pub listed : List ℕ → List ℕ → List ℕ
+listed dates lent = overwritten (take (length lent) dates) lent
+
+pub record MaySearch (settings cells : List ℕ) (column : Column) : Type 0 where
+  pub opened : settingsReady settings ≡ true
+  pub reaches : (d : ℕ) → d < datesOf settings → Reaches cells column d

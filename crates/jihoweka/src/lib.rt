@@ -1,0 +1,233 @@
+// The library for C: every call as an exported function on numbers and slices. `include/jihoweka.h` declares them.
+// The number is returned; the other fields of the answer go to the front of the list `fields`, which is looked at before all else.
+mod numbers;
+
+use crate::numbers::FIELDS;
+use crate::numbers::of_band;
+use crate::numbers::of_cell;
+use crate::numbers::of_net;
+use crate::numbers::of_outcome;
+use crate::numbers::of_run;
+use crate::numbers::of_totals;
+use crate::numbers::put_fields;
+use engine::OpeningTerms;
+ghost use mathlib.Core.Path.{_≡_};
+ghost use mathlib.Core.Bool.{not};
+ghost use lib.Dec.{eqb};
+ghost use Rattle.ledger.specs.Ledger.{answer, accepted, moved, totalsAre, cellIs, netIs, bandIs, left};
+ghost use Rattle.ledger.specs.Calls.{openingVerdict, registrationVerdict, registeredMeters, receptionVerdict, receivedReadings, runVerdict, ranFrom, totalsVerdict, totalsFor, cellVerdict, cellFor, netVerdict, netFor, bandVerdict, bandFor, overwritten};
+ghost use Rattle.registration.specs.Registration.{registrationCall};
+ghost use Rattle.reception.specs.Reception.{receptionCall};
+ghost use Rattle.net.specs.Asked.{netCall};
+ghost use Rattle.band.specs.Search.{bandCall};
+ghost use Rattle.jihoweka.specs.Fields.{Returned, unlessShort, OpeningLeaves};
+
+// What a call returns where the list is too short for the fields.
+const SHORT: u64 = 1;
+
+#[no_mangle]
+pub extern "C" fn jihoweka_open(
+    settings: &mut [u8],
+    meters: &mut [u64],
+    readings: &mut [u64],
+    cells: &mut [u64],
+    duration: u64,
+    meter_count: u64,
+    category_records: &[u8],
+    day_types: &[u8],
+    fields: &mut [i64],
+) -> u64
+    ensures answers { λ r. ⌜ Returned (now (fields .entry)) (answer (openingVerdict (now (settings .entry)) (now (meters .entry)) (now (readings .entry)) (now (cells .entry)) (record { duration = duration; meters = «meter_count»; categoryBytes = (now («category_records» .entry)); dayTypes = (now («day_types» .entry)) })) accepted) r (now (fields .exit)) ⌝ }
+    ensures parts_are { λ r. ⌜ OpeningLeaves (now (fields .entry)) (now (settings .entry)) (now (meters .entry)) (now (readings .entry)) (now (cells .entry)) (record { duration = duration; meters = «meter_count»; categoryBytes = (now («category_records» .entry)); dayTypes = (now («day_types» .entry)) }) (now (settings .exit)) (now (meters .exit)) (now (readings .exit)) (now (cells .exit)) ⌝ }
+{
+    if fields.len() < FIELDS {
+        return SHORT;
+    }
+    let outcome = engine::open(
+        settings,
+        meters,
+        readings,
+        cells,
+        OpeningTerms {
+            duration,
+            meters: meter_count,
+        },
+        category_records,
+        day_types,
+    );
+    put_fields(fields, of_outcome(outcome))
+}
+
+#[no_mangle]
+pub extern "C" fn jihoweka_register(
+    settings: &[u8],
+    meters: &mut [u64],
+    readings: &[u64],
+    mpan: u64,
+    date: u64,
+    minute: u64,
+    category: u64,
+    sender: u16,
+    status: u64,
+    limit: u32,
+    fields: &mut [i64],
+) -> u64
+    ensures answers { λ r. ⌜ Returned (now (fields .entry)) (answer (registrationVerdict (now (settings .entry)) (now (meters .entry)) (now (readings .entry)) (registrationCall mpan date minute category sender status limit)) accepted) r (now (fields .exit)) ⌝ }
+    ensures meters_are { λ r. ⌜ now (meters .exit) ≡ unlessShort (now (fields .entry)) (now (meters .entry)) (left (registrationVerdict (now (settings .entry)) (now (meters .entry)) (now (readings .entry)) (registrationCall mpan date minute category sender status limit)) (now (meters .entry)) (registeredMeters (now (settings .entry)) (now (meters .entry)) (now (readings .entry)) (registrationCall mpan date minute category sender status limit))) ⌝ }
+{
+    if fields.len() < FIELDS {
+        return SHORT;
+    }
+    let outcome = engine::register(
+        settings,
+        meters,
+        readings,
+        mpan,
+        date,
+        minute,
+        category,
+        sender,
+        status,
+        limit,
+    );
+    put_fields(fields, of_outcome(outcome))
+}
+
+#[no_mangle]
+pub extern "C" fn jihoweka_receive(
+    settings: &[u8],
+    meters: &[u64],
+    readings: &mut [u64],
+    sender: u16,
+    mpan: u64,
+    date: u64,
+    duration: u64,
+    quantity: u64,
+    body: &[u8],
+    fields: &mut [i64],
+) -> u64
+    ensures answers { λ r. ⌜ Returned (now (fields .entry)) (answer (receptionVerdict (now (settings .entry)) (now (meters .entry)) (now (readings .entry)) (receptionCall sender mpan date duration quantity (now (body .entry)))) accepted) r (now (fields .exit)) ⌝ }
+    ensures readings_are { λ r. ⌜ now (readings .exit) ≡ unlessShort (now (fields .entry)) (now (readings .entry)) (left (receptionVerdict (now (settings .entry)) (now (meters .entry)) (now (readings .entry)) (receptionCall sender mpan date duration quantity (now (body .entry)))) (now (readings .entry)) (receivedReadings (now (settings .entry)) (now (meters .entry)) (now (readings .entry)) (receptionCall sender mpan date duration quantity (now (body .entry))))) ⌝ }
+{
+    if fields.len() < FIELDS {
+        return SHORT;
+    }
+    let outcome = engine::receive(
+        settings,
+        meters,
+        readings,
+        sender,
+        mpan,
+        date,
+        duration,
+        quantity,
+        body,
+    );
+    put_fields(fields, of_outcome(outcome))
+}
+
+#[no_mangle]
+pub extern "C" fn jihoweka_run(
+    settings: &[u8],
+    meters: &[u64],
+    readings: &[u64],
+    cells: &mut [u64],
+    date: u64,
+    fields: &mut [i64],
+) -> u64
+    ensures answers { λ r. ⌜ Returned (now (fields .entry)) (answer (runVerdict (now (settings .entry)) (now (meters .entry)) (now (readings .entry)) (now (cells .entry)) date) (moved (ranFrom (now (settings .entry)) (now (meters .entry)) (now (readings .entry)) (now (cells .entry)) date .moved))) r (now (fields .exit)) ⌝ }
+    ensures cells_are { λ r. ⌜ now (cells .exit) ≡ unlessShort (now (fields .entry)) (now (cells .entry)) (left (runVerdict (now (settings .entry)) (now (meters .entry)) (now (readings .entry)) (now (cells .entry)) date) (now (cells .entry)) (ranFrom (now (settings .entry)) (now (meters .entry)) (now (readings .entry)) (now (cells .entry)) date .cells)) ⌝ }
+{
+    if fields.len() < FIELDS {
+        return SHORT;
+    }
+    let outcome = engine::run(settings, meters, readings, cells, date);
+    put_fields(fields, of_run(outcome))
+}
+
+#[no_mangle]
+pub extern "C" fn jihoweka_read_totals(
+    settings: &[u8],
+    cells: &[u64],
+    date: u64,
+    category: u64,
+    fields: &mut [i64],
+) -> u64
+    ensures { λ r. ⌜ Returned (now (fields .entry)) (answer (totalsVerdict (now (settings .entry)) (now (cells .entry)) date category) (totalsAre (totalsFor (now (settings .entry)) (now (cells .entry)) date category))) r (now (fields .exit)) ⌝ }
+{
+    if fields.len() < FIELDS {
+        return SHORT;
+    }
+    let outcome = engine::read_totals(settings, cells, date, category);
+    put_fields(fields, of_totals(outcome))
+}
+
+#[no_mangle]
+pub extern "C" fn jihoweka_read_cell(
+    settings: &[u8],
+    cells: &[u64],
+    date: u64,
+    category: u64,
+    period: u64,
+    fields: &mut [i64],
+) -> u64
+    ensures { λ r. ⌜ Returned (now (fields .entry)) (answer (cellVerdict (now (settings .entry)) (now (cells .entry)) date category period) (cellIs (cellFor (now (settings .entry)) (now (cells .entry)) date category period))) r (now (fields .exit)) ⌝ }
+{
+    if fields.len() < FIELDS {
+        return SHORT;
+    }
+    let outcome = engine::read_cell(settings, cells, date, category, period);
+    put_fields(fields, of_cell(outcome))
+}
+
+// `all_groups` is a switch: 0 nets the own group, any other number all groups.
+#[no_mangle]
+pub extern "C" fn jihoweka_read_net(
+    settings: &[u8],
+    cells: &[u64],
+    date: u64,
+    category: u64,
+    all_groups: u64,
+    numbers: &mut [i64],
+    marks: &mut [u8],
+    fields: &mut [i64],
+) -> u64
+    ensures answers { λ r. ⌜ Returned (now (fields .entry)) (answer (netVerdict (now (settings .entry)) (now (cells .entry)) (netCall (not (eqb «all_groups» 0)) date category (now (numbers .entry)) (now (marks .entry)))) (netIs (netFor (now (settings .entry)) (now (cells .entry)) (netCall (not (eqb «all_groups» 0)) date category (now (numbers .entry)) (now (marks .entry)))))) r (now (fields .exit)) ⌝ }
+    ensures nets_are { λ r. ⌜ now (numbers .exit) ≡ unlessShort (now (fields .entry)) (now (numbers .entry)) (left (netVerdict (now (settings .entry)) (now (cells .entry)) (netCall (not (eqb «all_groups» 0)) date category (now (numbers .entry)) (now (marks .entry)))) (now (numbers .entry)) (overwritten (netFor (now (settings .entry)) (now (cells .entry)) (netCall (not (eqb «all_groups» 0)) date category (now (numbers .entry)) (now (marks .entry))) .periods) (now (numbers .entry)))) ⌝ }
+    ensures marks_are { λ r. ⌜ now (marks .exit) ≡ unlessShort (now (fields .entry)) (now (marks .entry)) (left (netVerdict (now (settings .entry)) (now (cells .entry)) (netCall (not (eqb «all_groups» 0)) date category (now (numbers .entry)) (now (marks .entry)))) (now (marks .entry)) (overwritten (netFor (now (settings .entry)) (now (cells .entry)) (netCall (not (eqb «all_groups» 0)) date category (now (numbers .entry)) (now (marks .entry))) .marks) (now (marks .entry)))) ⌝ }
+{
+    if fields.len() < FIELDS {
+        return SHORT;
+    }
+    let outcome = engine::read_net(
+        settings,
+        cells,
+        date,
+        category,
+        all_groups != 0,
+        numbers,
+        marks,
+    );
+    put_fields(fields, of_net(outcome))
+}
+
+#[no_mangle]
+pub extern "C" fn jihoweka_search_band(
+    settings: &[u8],
+    cells: &[u64],
+    category: u64,
+    day_type: u64,
+    least: u64,
+    most: u64,
+    dates: &mut [u64],
+    fields: &mut [i64],
+) -> u64
+    ensures answers { λ r. ⌜ Returned (now (fields .entry)) (answer (bandVerdict (now (settings .entry)) (now (cells .entry)) (bandCall category «day_type» least most (now (dates .entry)))) (bandIs (bandFor (now (settings .entry)) (now (cells .entry)) (bandCall category «day_type» least most (now (dates .entry)))))) r (now (fields .exit)) ⌝ }
+    ensures dates_are { λ r. ⌜ now (dates .exit) ≡ unlessShort (now (fields .entry)) (now (dates .entry)) (left (bandVerdict (now (settings .entry)) (now (cells .entry)) (bandCall category «day_type» least most (now (dates .entry)))) (now (dates .entry)) (overwritten (bandFor (now (settings .entry)) (now (cells .entry)) (bandCall category «day_type» least most (now (dates .entry))) .dates) (now (dates .entry)))) ⌝ }
+{
+    if fields.len() < FIELDS {
+        return SHORT;
+    }
+    let outcome = engine::search_band(settings, cells, category, day_type, least, most, dates);
+    put_fields(fields, of_band(outcome))
+}

@@ -1,0 +1,591 @@
+//! The head-end of `head_end.c` over a safe wrapper of the library: the same calls, the same lines,
+//! the same files. What they look like is said there.
+//!
+//!     head_end DAYS STORE
+
+use std::fmt;
+use std::process::ExitCode;
+
+/// The calls as `include/jihoweka.h` declares them.
+mod c {
+    extern "C" {
+        pub fn jihoweka_open(
+            settings: *mut u8, settings_length: usize,
+            meters: *mut u64, meters_length: usize,
+            readings: *mut u64, readings_length: usize,
+            cells: *mut u64, cells_length: usize,
+            duration: u64, meter_count: u64,
+            category_records: *const u8, category_records_length: usize,
+            day_types: *const u8, day_types_length: usize,
+            fields: *mut i64, fields_length: usize,
+        ) -> u64;
+        pub fn jihoweka_register(
+            settings: *const u8, settings_length: usize,
+            meters: *mut u64, meters_length: usize,
+            readings: *const u64, readings_length: usize,
+            mpan: u64, date: u64, minute: u64, category: u64, sender: u16, status: u64, limit: u32,
+            fields: *mut i64, fields_length: usize,
+        ) -> u64;
+        pub fn jihoweka_receive(
+            settings: *const u8, settings_length: usize,
+            meters: *const u64, meters_length: usize,
+            readings: *mut u64, readings_length: usize,
+            sender: u16, mpan: u64, date: u64, duration: u64, quantity: u64,
+            body: *const u8, body_length: usize,
+            fields: *mut i64, fields_length: usize,
+        ) -> u64;
+        pub fn jihoweka_run(
+            settings: *const u8, settings_length: usize,
+            meters: *const u64, meters_length: usize,
+            readings: *const u64, readings_length: usize,
+            cells: *mut u64, cells_length: usize,
+            date: u64,
+            fields: *mut i64, fields_length: usize,
+        ) -> u64;
+        pub fn jihoweka_read_totals(
+            settings: *const u8, settings_length: usize,
+            cells: *const u64, cells_length: usize,
+            date: u64, category: u64,
+            fields: *mut i64, fields_length: usize,
+        ) -> u64;
+        pub fn jihoweka_read_cell(
+            settings: *const u8, settings_length: usize,
+            cells: *const u64, cells_length: usize,
+            date: u64, category: u64, period: u64,
+            fields: *mut i64, fields_length: usize,
+        ) -> u64;
+        pub fn jihoweka_read_net(
+            settings: *const u8, settings_length: usize,
+            cells: *const u64, cells_length: usize,
+            date: u64, category: u64, all_groups: u64,
+            numbers: *mut i64, numbers_length: usize,
+            marks: *mut u8, marks_length: usize,
+            fields: *mut i64, fields_length: usize,
+        ) -> u64;
+        pub fn jihoweka_search_band(
+            settings: *const u8, settings_length: usize,
+            cells: *const u64, cells_length: usize,
+            category: u64, day_type: u64, least: u64, most: u64,
+            dates: *mut u64, dates_length: usize,
+            fields: *mut i64, fields_length: usize,
+        ) -> u64;
+    }
+}
+
+// ---- the wrapper
+
+const FIELDS: usize = 11;
+const NO_ORIGIN: i64 = 65535;
+
+struct Refusal {
+    number: u64,
+    place: i64,
+}
+
+struct Registration {
+    mpan: u64,
+    date: u64,
+    minute: u64,
+    category: u64,
+    sender: u16,
+    status: u64,
+    limit: u32,
+}
+
+struct MeterDay {
+    sender: u16,
+    mpan: u64,
+    date: u64,
+    duration: u64,
+    quantity: u64,
+    body: Vec<u8>,
+}
+
+struct Cell {
+    flag: char,
+    value: i64,
+    count: i64,
+    origin: Option<i64>,
+}
+
+struct Net {
+    tot: i64,
+    tot7: i64,
+    numbers: Vec<i64>,
+    marks: Vec<u8>,
+}
+
+/// The four parts, lent to each call as it asks for them. Until it is opened, and whatever else the
+/// parts hold, calls are safe.
+struct Store {
+    settings: Vec<u8>,
+    meters: Vec<u64>,
+    readings: Vec<u64>,
+    cells: Vec<u64>,
+    periods: usize,
+}
+
+/// Makes a call with a list for its results, and gives them if it was accepted.
+fn results(call: impl FnOnce(*mut i64, usize) -> u64) -> Result<[i64; FIELDS], Refusal> {
+    let mut fields = [0; FIELDS];
+    match call(fields.as_mut_ptr(), fields.len()) {
+        0 => Ok(fields),
+        number => Err(Refusal { number, place: fields[0] }),
+    }
+}
+
+// What the header asks of a caller holds in every call below, for the same reasons: a pointer and
+// its count come from one slice, so it is aligned and the entries are there; what is written is
+// borrowed as mutable or our own, so it overlaps nothing else and nothing else writes to it.
+impl Store {
+    /// An unopened store with the least lengths, for sizes that an opening accepts.
+    fn allocate(duration: usize, meters: usize, categories: usize, dates: usize) -> Store {
+        let periods = 1440 / duration;
+        Store {
+            settings: vec![0; 8 + 8 * categories + dates],
+            meters: vec![0; 41 * meters],
+            readings: vec![0; dates * meters * (1 + periods)],
+            cells: vec![0; dates * categories * periods],
+            periods,
+        }
+    }
+
+    fn open(
+        &mut self, duration: u64, meter_count: u64, category_records: &[u8], day_types: &[u8],
+    ) -> Result<(), Refusal> {
+        // SAFETY: four vectors of self, each borrowed as mutable, and two slices only read.
+        results(|fields, length| unsafe {
+            c::jihoweka_open(
+                self.settings.as_mut_ptr(), self.settings.len(),
+                self.meters.as_mut_ptr(), self.meters.len(),
+                self.readings.as_mut_ptr(), self.readings.len(),
+                self.cells.as_mut_ptr(), self.cells.len(),
+                duration, meter_count,
+                category_records.as_ptr(), category_records.len(),
+                day_types.as_ptr(), day_types.len(),
+                fields, length,
+            )
+        })
+        .map(|_| ())
+    }
+
+    fn register(&mut self, r: &Registration) -> Result<(), Refusal> {
+        // SAFETY: of the vectors of self, meters is borrowed as mutable, the others are only read.
+        results(|fields, length| unsafe {
+            c::jihoweka_register(
+                self.settings.as_ptr(), self.settings.len(),
+                self.meters.as_mut_ptr(), self.meters.len(),
+                self.readings.as_ptr(), self.readings.len(),
+                r.mpan, r.date, r.minute, r.category, r.sender, r.status, r.limit,
+                fields, length,
+            )
+        })
+        .map(|_| ())
+    }
+
+    fn receive(&mut self, day: &MeterDay) -> Result<(), Refusal> {
+        // SAFETY: readings is borrowed as mutable; the other parts and the body are only read.
+        results(|fields, length| unsafe {
+            c::jihoweka_receive(
+                self.settings.as_ptr(), self.settings.len(),
+                self.meters.as_ptr(), self.meters.len(),
+                self.readings.as_mut_ptr(), self.readings.len(),
+                day.sender, day.mpan, day.date, day.duration, day.quantity,
+                day.body.as_ptr(), day.body.len(),
+                fields, length,
+            )
+        })
+        .map(|_| ())
+    }
+
+    /// How many cells moved.
+    fn run(&mut self, date: u64) -> Result<i64, Refusal> {
+        // SAFETY: cells is borrowed as mutable, the other parts are only read.
+        results(|fields, length| unsafe {
+            c::jihoweka_run(
+                self.settings.as_ptr(), self.settings.len(),
+                self.meters.as_ptr(), self.meters.len(),
+                self.readings.as_ptr(), self.readings.len(),
+                self.cells.as_mut_ptr(), self.cells.len(),
+                date,
+                fields, length,
+            )
+        })
+        .map(|fields| fields[0])
+    }
+
+    /// TOT, OFF, PEAK, TOT7, OFF7, PEAK7, days7, ANN, days, FRESH, BLANK.
+    fn totals(&self, date: u64, category: u64) -> Result<[i64; FIELDS], Refusal> {
+        // SAFETY: both parts are only read; fields is our own.
+        results(|fields, length| unsafe {
+            c::jihoweka_read_totals(
+                self.settings.as_ptr(), self.settings.len(),
+                self.cells.as_ptr(), self.cells.len(),
+                date, category,
+                fields, length,
+            )
+        })
+    }
+
+    fn cell(&self, date: u64, category: u64, period: u64) -> Result<Cell, Refusal> {
+        // SAFETY: both parts are only read; fields is our own.
+        results(|fields, length| unsafe {
+            c::jihoweka_read_cell(
+                self.settings.as_ptr(), self.settings.len(),
+                self.cells.as_ptr(), self.cells.len(),
+                date, category, period,
+                fields, length,
+            )
+        })
+        .map(|fields| Cell {
+            flag: char::from(fields[0] as u8),
+            value: fields[1],
+            count: fields[2],
+            origin: Some(fields[3]).filter(|&origin| origin != NO_ORIGIN),
+        })
+    }
+
+    fn net(&self, date: u64, category: u64, all_groups: bool) -> Result<Net, Refusal> {
+        let (mut numbers, mut marks) = (vec![0; self.periods], vec![0; self.periods]);
+        // SAFETY: both parts are only read; both lists and fields are our own.
+        results(|fields, length| unsafe {
+            c::jihoweka_read_net(
+                self.settings.as_ptr(), self.settings.len(),
+                self.cells.as_ptr(), self.cells.len(),
+                date, category, u64::from(all_groups),
+                numbers.as_mut_ptr(), numbers.len(),
+                marks.as_mut_ptr(), marks.len(),
+                fields, length,
+            )
+        })
+        .map(|f| Net { tot: f[0], tot7: f[1], numbers, marks })
+    }
+
+    /// The dates found, as many as `dates` holds, and how many there are.
+    fn band<'a>(
+        &self, category: u64, day_type: u64, least: u64, most: u64, dates: &'a mut [u64],
+    ) -> Result<(&'a [u64], i64), Refusal> {
+        // SAFETY: both parts are only read; dates is borrowed as mutable, fields is our own.
+        results(|fields, length| unsafe {
+            c::jihoweka_search_band(
+                self.settings.as_ptr(), self.settings.len(),
+                self.cells.as_ptr(), self.cells.len(),
+                category, day_type, least, most,
+                dates.as_mut_ptr(), dates.len(),
+                fields, length,
+            )
+        })
+        .map(|fields| (&dates[..fields[0] as usize], fields[1]))
+    }
+
+    // The saved file, as in head_end.c.
+
+    fn header(&self) -> Vec<u8> {
+        let parts = [self.meters.len(), self.readings.len(), self.cells.len(), self.settings.len()];
+        let mut header = 0x6A69686F77656B61_u64.to_ne_bytes().to_vec();
+        header.extend(parts.iter().flat_map(|&length| (length as u64).to_ne_bytes()));
+        header
+    }
+
+    fn save(&self, path: &str) -> Result<usize, String> {
+        let mut bytes = self.header();
+        for part in [&self.meters, &self.readings, &self.cells] {
+            bytes.extend(part.iter().flat_map(|entry| entry.to_ne_bytes()));
+        }
+        bytes.extend(&self.settings);
+        std::fs::write(path, &bytes).map_err(|_| format!("{path}: cannot be written"))?;
+        Ok(bytes.len())
+    }
+
+    /// The lengths must be those of this store. Calls keep to them whatever the parts hold.
+    fn load(&mut self, path: &str) -> Result<usize, String> {
+        let bytes = std::fs::read(path).map_err(|_| format!("{path}: cannot be read"))?;
+        let numbers = self.meters.len() + self.readings.len() + self.cells.len();
+        let header = self.header();
+        let length = header.len() + 8 * numbers + self.settings.len();
+        if bytes.len() != length || !bytes.starts_with(&header) {
+            return Err(format!("{path}: is no store of this size"));
+        }
+        let (entries, settings) = bytes[header.len()..].split_at(8 * numbers);
+        let parts = [&mut self.meters, &mut self.readings, &mut self.cells];
+        for (entry, saved) in parts.into_iter().flatten().zip(entries.chunks_exact(8)) {
+            *entry = u64::from_ne_bytes(saved.try_into().expect("eight bytes"));
+        }
+        self.settings.copy_from_slice(settings);
+        Ok(bytes.len())
+    }
+}
+
+impl fmt::Display for Refusal {
+    fn fmt(&self, f: &mut fmt::Formatter) -> fmt::Result {
+        let name = match self.number {
+            1 => "SHORT",
+            2 => "CATEGORY_UNKNOWN",
+            3 => "SIZE",
+            4 => "CATEGORY_RECORD",
+            5 => "DAY_TYPE",
+            6 => "MPAN",
+            7 => "NOT_REGISTERED",
+            8 => "STORE_FULL",
+            9 => "DATE",
+            10 => "START_TOO_EARLY",
+            11 => "SET_HELD",
+            12 => "NINTH_REGISTRATION",
+            13 => "BODY",
+            14 => "NOT_RUN",
+            15 => "RANGE",
+            16 => "REGISTRATION",
+            26 => "NO_PARTNER",
+            1001 => "SENDER",
+            1002 => "QUANTITY",
+            1004 => "DURATION",
+            1005 => "END_MINUTE",
+            1006 => "DUPLICATE",
+            1008 => "DE_ENERGISED",
+            1009 => "DISCONNECTED",
+            1011 => "ZERO_ESTIMATE",
+            1012 => "ABOVE_LIMIT",
+            _ => "UNKNOWN",
+        };
+        write!(f, "refused {} {name}, place {}", self.number, self.place)
+    }
+}
+
+// ---- the head-end
+
+const DURATION: usize = 30;
+const SENDER: u16 = 7;
+const ENERGISED: u64 = 1;
+const LIMIT: u32 = 10000;
+
+/// Segment, group, domestic, quantity, connection, window, de-minimis.
+const CATEGORY_RECORDS: [[u8; 8]; 4] = [
+    [1, 1, 2, 1, 1, 1, 0, 1], // 0: import of group A, off-peak from 00:00 to 07:00
+    [1, 1, 2, 2, 1, 0, 0, 1], // 1: export of group A
+    [1, 2, 2, 1, 1, 2, 0, 2], // 2: import of group B, off-peak from 00:30 to 07:30, two readings
+    [1, 2, 2, 2, 1, 0, 0, 1], // 3: export of group B
+];
+const DAY_TYPES: [u8; 6] = [1, 1, 2, 1, 1, 2];
+const DATES: u64 = DAY_TYPES.len() as u64;
+/// MPAN and category.
+const METERS: [(u64, u64); 5] = [
+    (1000000001016, 0),
+    (1000000001025, 0),
+    (1000000001034, 1),
+    (1100000001048, 2),
+    (1100000001057, 3),
+];
+
+/// Wh, shown as kWh.
+struct Kwh(i64);
+
+impl fmt::Display for Kwh {
+    fn fmt(&self, f: &mut fmt::Formatter) -> fmt::Result {
+        let (sign, size) = (if self.0 < 0 { "-" } else { "" }, self.0.unsigned_abs());
+        write!(f, "{sign}{}.{:03}", size / 1000, size % 1000)
+    }
+}
+
+/// The line of a call: what was asked, and the answer or the refusal.
+fn say<T>(asked: String, answer: Result<T, Refusal>, words: impl Fn(T) -> String) {
+    match answer {
+        Ok(results) => println!("{asked}: {}", words(results)),
+        Err(refusal) => println!("{asked}: {refusal}"),
+    }
+}
+
+fn accepted(_: ()) -> String {
+    "accepted".to_string()
+}
+
+fn new_store() -> Store {
+    Store::allocate(DURATION, METERS.len(), CATEGORY_RECORDS.len(), DAY_TYPES.len())
+}
+
+/// From date 0, minute 0 on.
+fn register_meter(store: &mut Store, mpan: u64, category: u64) {
+    let registration = Registration {
+        mpan,
+        date: 0,
+        minute: 0,
+        category,
+        sender: SENDER,
+        status: ENERGISED,
+        limit: LIMIT,
+    };
+    say(format!("register {mpan}"), store.register(&registration), accepted);
+}
+
+/// A day without records. An unknown meter has quantity 0; its day is refused before it matters.
+fn empty_day(mpan: u64, date: u64) -> MeterDay {
+    let meter = METERS.iter().find(|meter| meter.0 == mpan);
+    let quantity = meter.map_or(0, |&(_, category)| CATEGORY_RECORDS[category as usize][3]);
+    let (duration, quantity) = (DURATION as u64, u64::from(quantity));
+    MeterDay { sender: SENDER, mpan, date, duration, quantity, body: Vec::new() }
+}
+
+fn add_record(day: &mut MeterDay, end: u16, quality: u8, wh: u32) {
+    day.body.extend(end.to_be_bytes());
+    day.body.push(quality);
+    day.body.extend(wh.to_be_bytes());
+}
+
+/// A day without records is none: there are no lines for it in the file.
+fn receive_day(store: &mut Store, day: &MeterDay) {
+    if day.body.is_empty() {
+        return;
+    }
+    say(format!("receive {} date {}", day.mpan, day.date), store.receive(day), accepted);
+}
+
+fn run_date(store: &mut Store, date: u64) {
+    say(format!("run {date}"), store.run(date), |moved| format!("{moved} cells moved"));
+}
+
+fn print_totals(store: &Store, date: u64, category: u64) {
+    let asked = format!("totals of date {date}, category {category}");
+    say(asked, store.totals(date, category), |results| {
+        let [.., days7, _, days, fresh, blank] = results;
+        let [tot, off, peak, tot7, off7, peak7, _, annual, ..] = results.map(Kwh);
+        format!(
+            "TOT {tot} OFF {off} PEAK {peak} TOT7 {tot7} OFF7 {off7} PEAK7 {peak7} \
+             days7 {days7} ANN {annual} days {days} FRESH {fresh} BLANK {blank}"
+        )
+    });
+}
+
+fn print_cell(store: &Store, date: u64, category: u64, period: u64) {
+    let asked = format!("cell of date {date}, category {category}, period {period}");
+    say(asked, store.cell(date, category, period), |cell| {
+        let origin = cell.origin.map_or("-".to_string(), |origin| origin.to_string());
+        format!("{} {} {} {origin}", cell.flag, Kwh(cell.value), cell.count)
+    });
+}
+
+/// Eight periods to a line; a star says that a shape in the number is missing.
+fn print_net(store: &Store, date: u64, category: u64, all_groups: bool) {
+    let form = if all_groups { "all groups" } else { "own group" };
+    let asked = format!("net of date {date}, category {category}, {form}");
+    say(asked, store.net(date, category, all_groups), |net| {
+        let mut text = format!("TOT {} TOT7 {}", Kwh(net.tot), Kwh(net.tot7));
+        for (j, (&number, &mark)) in net.numbers.iter().zip(&net.marks).enumerate() {
+            text += if j % 8 == 0 { "\n  " } else { " " };
+            text += &Kwh(number).to_string();
+            text += if mark == 1 { "*" } else { "" };
+        }
+        text
+    });
+}
+
+/// The dates of day type 1 with 63.652 to 69.122 kWh in category 0, as many as there is room for.
+fn print_band(store: &Store, room: usize) {
+    let mut dates = vec![0; room];
+    let answer = store.band(0, 1, 63652, 69122, &mut dates);
+    say(format!("band with room for {room}"), answer, |(dates, there_are)| {
+        let shown: String = dates.iter().map(|date| format!(" {date}")).collect();
+        format!("{} of {there_are}:{shown}", dates.len())
+    });
+}
+
+/// Takes a number up to `most` and the byte behind it, or the line's end.
+fn take(line: &mut &[u8], most: u64, end: Option<u8>) -> Option<u64> {
+    let digits = line.iter().take_while(|byte| byte.is_ascii_digit()).count();
+    let number = std::str::from_utf8(&line[..digits]).ok()?.parse().ok()?;
+    if number > most || line.get(digits).copied() != end {
+        return None;
+    }
+    *line = line.get(digits + 1..).unwrap_or_default();
+    Some(number)
+}
+
+/// MPAN, date, end minute, quality and Wh.
+fn record(mut line: &[u8]) -> Option<(u64, u64, u16, u8, u32)> {
+    const EIGHTEEN_DIGITS: u64 = 999999999999999999;
+    let mpan = take(&mut line, EIGHTEEN_DIGITS, Some(b','))?;
+    let date = take(&mut line, EIGHTEEN_DIGITS, Some(b','))?;
+    let hours = take(&mut line, 24, Some(b':'))? as u16;
+    let minutes = take(&mut line, 59, Some(b','))? as u16;
+    let quality = take(&mut line, u8::MAX.into(), Some(b','))? as u8;
+    let wh = take(&mut line, u32::MAX.into(), None)? as u32;
+    Some((mpan, date, 60 * hours + minutes, quality, wh))
+}
+
+fn receive_file(store: &mut Store, path: &str) -> Result<(), String> {
+    let malformed = |line| format!("{path}: line {line} is not mpan,date,end,quality,Wh");
+    let text = std::fs::read(path).map_err(|_| format!("{path}: cannot be read"))?;
+    let lines = text.strip_prefix(b"mpan,date,end,quality,Wh\n").ok_or_else(|| malformed(1))?;
+    let mut day = empty_day(0, 0); // until the first line
+    for (number, line) in lines.split_inclusive(|&byte| byte == b'\n').enumerate() {
+        let line = line.strip_suffix(b"\n").unwrap_or(line);
+        let (mpan, date, end, quality, wh) = record(line).ok_or_else(|| malformed(number + 2))?;
+        if (day.mpan, day.date) != (mpan, date) {
+            receive_day(store, &day);
+            day = empty_day(mpan, date);
+        }
+        add_record(&mut day, end, quality, wh);
+    }
+    receive_day(store, &day);
+    Ok(())
+}
+
+fn shape_dates(store: &mut Store) {
+    (0..DATES - 1).for_each(|date| run_date(store, date));
+    (0..DATES).for_each(|date| print_totals(store, date, 0));
+    (1..4).for_each(|category| print_totals(store, 0, category));
+    print_cell(store, 0, 0, 1);
+    print_cell(store, 0, 2, 1);
+    print_cell(store, 0, 1, 25);
+    print_cell(store, 1, 2, 1);
+    print_net(store, 0, 0, false);
+    print_net(store, 0, 2, false);
+    print_net(store, 4, 0, true);
+    print_net(store, 0, 1, false); // of an export category there is none
+    print_band(store, DAY_TYPES.len());
+    print_band(store, 2);
+}
+
+/// A meter's date 0 comes again. What was copied from it follows once date 0 is run again.
+fn correct_first_date(store: &mut Store) {
+    let mut late = empty_day(METERS[0].0, 0);
+    (30..=1440).step_by(DURATION).for_each(|end| add_record(&mut late, end, 1, 2000));
+    receive_day(store, &late);
+    print_totals(store, 1, 0);
+    run_date(store, 0);
+    print_totals(store, 0, 0);
+    print_totals(store, 1, 0);
+    print_cell(store, 1, 2, 1);
+    print_net(store, 1, 0, true);
+    print_band(store, DAY_TYPES.len());
+}
+
+fn head_end(days: &str, saved: &str) -> Result<(), String> {
+    let mut store = new_store();
+    let (duration, meters) = (DURATION as u64, METERS.len() as u64);
+    let opened = store.open(duration, meters, &CATEGORY_RECORDS.concat(), &DAY_TYPES);
+    say("open".to_string(), opened, accepted);
+    METERS.iter().for_each(|&(mpan, category)| register_meter(&mut store, mpan, category));
+    register_meter(&mut store, METERS[0].0 + 1, 0); // mistyped
+    receive_file(&mut store, days)?;
+    shape_dates(&mut store);
+    println!("save: {} bytes", store.save(saved)?);
+
+    let mut store = new_store();
+    println!("load: {} bytes", store.load(saved)?);
+    correct_first_date(&mut store);
+    Ok(())
+}
+
+fn main() -> ExitCode {
+    let arguments: Vec<String> = std::env::args().skip(1).collect();
+    let done = match &arguments[..] {
+        [days, saved] => head_end(days, saved),
+        _ => Err("usage: head_end DAYS STORE".to_string()),
+    };
+    match done {
+        Ok(()) => ExitCode::SUCCESS,
+        Err(reason) => {
+            eprintln!("{reason}");
+            ExitCode::FAILURE
+        }
+    }
+}

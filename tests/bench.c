@@ -1,0 +1,500 @@
+/* Times the calls at full size. Beside each stands, as a limit, memcpy of the bytes that the call
+   has to touch, in the same places and with the same strides.
+
+     bench [ROUNDS]    7 to 99, 7 if not given
+
+   A round times many calls in a row and divides; the table has the median, least and most of the
+   rounds. Where a call answers anything but what it must, the program ends with exit status 1. */
+#define _POSIX_C_SOURCE 200809L
+
+#include <inttypes.h>
+#include <stdio.h>
+#include <stdlib.h>
+#include <string.h>
+#include <sys/resource.h>
+#include <time.h>
+
+#include "jihoweka.h"
+
+enum {
+    METERS = 1024, CATEGORIES = 64, DATES = 800, DURATION = 15, PERIODS = JIHOWEKA_PERIODS(DURATION),
+    GROUPS = 14,                                    /* of the family that is netted */
+    WEEK = 7, YEAR = 365,
+    SET = 1 + PERIODS,                              /* entries of a set in readings */
+    ROW = CATEGORIES * PERIODS,                     /* entries of a date in cells */
+    SLOT = 40, REGISTRATION = 5,                    /* entries of a meter and of one registration */
+    SET_BYTES = 8 * SET, ROW_BYTES = 8 * ROW, COLUMN_BYTES = 8 * PERIODS,
+    BODY_BYTES = PERIODS * JIHOWEKA_RECORD_BYTES,
+    SENDER = 7, ENERGISED = 1, LIMIT = 50000,
+    DATES_IN_ORDER = 40, DATES_ANEW = 48,           /* of a round */
+    DUTY_DATES = 28, DUTY_RECEPTIONS = 7200, DUTY_INTERVAL = 75,
+    PICKS = 50000, LEAST_ROUNDS = 7, MOST_ROUNDS = 99
+};
+
+/* ---- the store, and what is put into it */
+
+static struct {
+    uint8_t *settings;
+    uint64_t *meters, *readings, *cells;
+    size_t settings_length, meters_length, readings_length, cells_length;
+} store;
+
+static int64_t fields[JIHOWEKA_FIELDS];
+
+#define LENT(part) store.part, store.part##_length
+#define METER_PARTS LENT(settings), LENT(meters), LENT(readings)
+#define READ_PARTS LENT(settings), LENT(cells)
+#define FIELDS fields, JIHOWEKA_FIELDS
+
+static uint8_t category_records[CATEGORIES][JIHOWEKA_CATEGORY_BYTES];
+static uint8_t day_types[DATES];
+static uint64_t mpans[METERS];                      /* meter k is in category k % CATEGORIES */
+static uint8_t bodies[2][METERS][BODY_BYTES];       /* the halves share no average */
+static uint64_t sets[METERS][SET];                  /* what readings hold of the bodies' half 0 */
+static int half_held[DATES];                        /* the half that a date's sets are from */
+
+/* What the calls of a round ask for, drawn before it. */
+static struct {
+    uint16_t date, meter, body;
+    uint8_t category, period;
+} picks[PICKS];
+
+static uint64_t below(uint64_t bound) {
+    static uint64_t state = 88172645463325252;
+    state ^= state << 13;
+    state ^= state >> 7;
+    state ^= state << 17;
+    return (state >> 20) % bound;
+}
+
+static void draw_picks(size_t first_date) {
+    for (size_t i = 0; i < PICKS; i++) {
+        picks[i].date = (uint16_t)(first_date + below(DATES - first_date));
+        picks[i].meter = (uint16_t)below(METERS);
+        picks[i].body = (uint16_t)below(METERS);
+        picks[i].category = (uint8_t)below(CATEGORIES);
+        picks[i].period = (uint8_t)(1 + below(PERIODS));
+    }
+}
+
+/* Smart: 14 imports, their exports, the same of another kind; then Advanced. A category has 16
+   meters, so with a de-minimis count of 30 its flag is D. */
+static void make_categories(void) {
+    for (uint8_t c = 0; c < CATEGORIES; c++) {
+        uint8_t group = 1 + c % GROUPS, quantity = 1 + c / GROUPS % 2, kind = 1 + c / (2 * GROUPS);
+        uint8_t smart[] = {1, group, kind, quantity, kind, group % 3, 0, group % 4 ? 10 : 30};
+        uint8_t advanced[] = {2, 0, 0, 1 + c / 4 % 2, 1 + c % 4, 0, 0, 5};
+        memcpy(category_records[c], c < 4 * GROUPS ? smart : advanced, sizeof smart);
+    }
+}
+
+static uint64_t with_check_digit(uint64_t twelve_digits) {
+    static const uint64_t weights[] = {43, 41, 37, 31, 29, 23, 19, 17, 13, 7, 5, 3};
+    uint64_t sum = 0, rest = twelve_digits;
+    for (size_t k = 0; k < 12; k++, rest /= 10) sum += rest % 10 * weights[k];
+    return 10 * twelve_digits + sum % 11 % 10;
+}
+
+static void make_body(uint8_t *body, uint64_t base) {
+    for (uint32_t j = 1; j <= PERIODS; j++, body += JIHOWEKA_RECORD_BYTES) {
+        uint32_t end = j * DURATION, wh = (uint32_t)(base + below(256));
+        uint8_t record[] = {end >> 8, end & 255, 1 + below(7), 0, 0, wh >> 8, wh & 255};
+        memcpy(body, record, sizeof record);
+    }
+}
+
+static void make_data(void) {
+    make_categories();
+    for (size_t d = 0; d < DATES; d++) day_types[d] = 1 + d % WEEK;
+    for (size_t k = 0; k < METERS; k++) {
+        mpans[k] = with_check_digit(100000000000 + below(800000000000));
+        make_body(bodies[0][k], 50 + below(400));
+        make_body(bodies[1][k], 1050 + below(400));
+    }
+}
+
+static void *part_of(size_t bytes) {
+    void *part = malloc(bytes);
+    if (part) return part;
+    fprintf(stderr, "bench: no memory for %zu bytes\n", bytes);
+    exit(1);
+}
+
+static void make_parts(void) {
+    store.settings_length = JIHOWEKA_SETTINGS_LENGTH(CATEGORIES, DATES);
+    store.meters_length = JIHOWEKA_METERS_LENGTH(METERS);
+    store.readings_length = JIHOWEKA_READINGS_LENGTH(METERS, DATES, PERIODS);
+    store.cells_length = JIHOWEKA_CELLS_LENGTH(CATEGORIES, DATES, PERIODS);
+    store.settings = part_of(store.settings_length);
+    store.meters = part_of(8 * store.meters_length);
+    store.readings = part_of(8 * store.readings_length);
+    store.cells = part_of(8 * store.cells_length);
+}
+
+/* ---- the calls, each with its check */
+
+static inline void must_be(const char *what, int64_t answered, int64_t due) {
+    if (answered == due) return;
+    fprintf(stderr, "bench: %s: %" PRId64 " where %" PRId64 " is due\n", what, answered, due);
+    exit(1);
+}
+
+static inline void must_accept(const char *call, uint64_t number) {
+    must_be(call, (int64_t)number, JIHOWEKA_ACCEPTED);
+}
+
+static void open_store(void) {
+    must_accept("number of an opening", jihoweka_open(
+        METER_PARTS, LENT(cells), DURATION, METERS, *category_records, sizeof category_records,
+        day_types, DATES, FIELDS));
+}
+
+static void register_meter(size_t meter, uint64_t date) {
+    must_accept("number of a registration", jihoweka_register(
+        METER_PARTS, mpans[meter], date, 0, meter % CATEGORIES, SENDER, ENERGISED, LIMIT, FIELDS));
+}
+
+static void receive(size_t meter, uint64_t date, const uint8_t *body) {
+    uint64_t quantity = category_records[meter % CATEGORIES][3];
+    must_accept("number of a reception", jihoweka_receive(
+        METER_PARTS, SENDER, mpans[meter], date, DURATION, quantity, body, BODY_BYTES, FIELDS));
+}
+
+static int64_t run(uint64_t date) {
+    must_accept("number of a run", jihoweka_run(METER_PARTS, LENT(cells), date, FIELDS));
+    return fields[JIHOWEKA_MOVED];
+}
+
+static void read_totals(uint64_t date, uint64_t category) {
+    must_accept("number of a totals read", jihoweka_read_totals(
+        READ_PARTS, date, category, FIELDS));
+    must_be("days7 of a totals read", fields[JIHOWEKA_DAYS7], WEEK);
+    must_be("days of a totals read", fields[JIHOWEKA_DAYS], YEAR);
+}
+
+static void read_cell(uint64_t date, uint64_t category, uint64_t period) {
+    must_accept("number of a cell read", jihoweka_read_cell(
+        READ_PARTS, date, category, period, FIELDS));
+    must_be("origin of a cell read", fields[JIHOWEKA_ORIGIN], (int64_t)date);
+}
+
+static void read_net(uint64_t date, uint64_t category, uint64_t all_groups) {
+    static int64_t numbers[PERIODS];
+    static uint8_t marks[PERIODS];
+    must_accept("number of a net read", jihoweka_read_net(
+        READ_PARTS, date, category, all_groups, numbers, PERIODS, marks, PERIODS, FIELDS));
+    must_be("last mark of a net read", marks[PERIODS - 1], 0);
+}
+
+static void search_band(uint64_t category, uint64_t type, uint64_t least, uint64_t most,
+                        int64_t due) {
+    static uint64_t dates[DATES];
+    must_accept("number of a band search", jihoweka_search_band(
+        READ_PARTS, category, type, least, most, dates, DATES, FIELDS));
+    must_be("dates written by a band search", fields[JIHOWEKA_WRITTEN], due);
+    must_be("dates that a band search counts", fields[JIHOWEKA_FOUND], due);
+}
+
+/* ---- the copies, to and from places that docs/STORE.md gives; by pointers that the compiler does
+   not see through, so that all are made */
+
+static void *(*volatile copy_bytes)(void *restrict, const void *restrict, size_t) = memcpy;
+static void *(*volatile fill_bytes)(void *, int, size_t) = memset;
+static uint64_t landing[ROW];
+
+static uint64_t *set_at(size_t date, size_t meter) {
+    return store.readings + (date * METERS + meter) * SET;
+}
+
+static uint64_t *column_at(size_t date, size_t category) {
+    return store.cells + date * ROW + category * PERIODS;
+}
+
+static void copy_out(const void *place, size_t bytes) { copy_bytes(landing, place, bytes); }
+
+static void copy_out_and_back(void *place, size_t bytes) {
+    copy_bytes(landing, place, bytes);
+    copy_bytes(place, landing, bytes);
+}
+
+/* For a reception: 776 bytes read stand for the body of 672, 776 written are the set. */
+static void copy_set_in(size_t date, size_t meter, size_t body) {
+    copy_bytes(set_at(date, meter), sets[body], SET_BYTES);
+}
+
+static void copy_sets_out(size_t date) {
+    for (size_t k = 0; k < METERS; k++) copy_out(set_at(date, k), SET_BYTES);
+}
+
+static void copy_run(size_t date) {
+    copy_sets_out(date);
+    copy_out_and_back(column_at(date, 0), ROW_BYTES);
+}
+
+/* A category's cells of a date and of those before it. */
+static void copy_columns(size_t date, size_t dates, size_t category) {
+    for (size_t back = 0; back < dates; back++)
+        copy_out(column_at(date - back, category), COLUMN_BYTES);
+}
+
+/* ---- the rows: call i of a round and its copy, and what has to come before */
+
+static void open_once(size_t i) { (void)i; open_store(); }
+static void open_copy(size_t i) {
+    (void)i;
+    fill_bytes(store.settings, 0, store.settings_length);
+    fill_bytes(store.meters, 0, 8 * store.meters_length);
+    fill_bytes(store.readings, 0, 8 * store.readings_length);
+    fill_bytes(store.cells, 0, 8 * store.cells_length);
+}
+
+static void new_meter(size_t i) { register_meter(i, 0); }
+static void new_meter_copy(size_t i) {
+    copy_out(store.meters, 8 * i);
+    copy_out_and_back(store.meters + i, 8);
+    copy_out_and_back(store.meters + METERS + SLOT * i, 8 * REGISTRATION);
+}
+
+static void open_and_register(void) {
+    open_store();
+    for (size_t k = 0; k < METERS; k++) register_meter(k, 0);
+}
+static void known_meter(size_t i) { register_meter(i, 1); }
+static void known_meter_copy(size_t i) {
+    new_meter_copy(i);
+    for (size_t d = DATES - 1; d >= 1; d--) copy_out(set_at(d, i), 8);
+}
+
+static void receive_date(size_t date, int half) {
+    for (size_t k = 0; k < METERS; k++) receive(k, date, bodies[half][k]);
+    half_held[date] = half;
+}
+static void fill_store(void) {
+    open_and_register();
+    for (size_t d = 0; d < DATES; d++) receive_date(d, 0);
+    memcpy(sets, store.readings, sizeof sets);
+}
+static void receive_in_order(size_t i) {
+    receive(i % METERS, picks[i / METERS].date, bodies[0][i % METERS]);
+}
+static void receive_in_order_copy(size_t i) {
+    copy_set_in(picks[i / METERS].date, i % METERS, i % METERS);
+}
+
+static void receive_any(size_t i) {
+    receive(picks[i].meter, picks[i].date, bodies[0][picks[i].body]);
+}
+static void receive_any_copy(size_t i) {
+    copy_set_in(picks[i].date, picks[i].meter, picks[i].body);
+}
+
+/* The cells as an opening leaves them: no date is run. */
+static void empty_cells(void) { memset(store.cells, 0, 8 * store.cells_length); }
+static void run_first(size_t i) { must_be("cells moved by a first run", run(i), ROW); }
+
+/* Dates far apart, no two alike since 307 and DATES have no common divisor. */
+static size_t first_anew;
+static size_t date_anew(size_t i) { return (first_anew + 307 * i) % DATES; }
+static void receive_anew(void) {
+    first_anew = below(DATES);
+    for (size_t i = 0; i < DATES_ANEW; i++) receive_date(date_anew(i), !half_held[date_anew(i)]);
+}
+static void run_anew(size_t i) { must_be("cells moved by new sets", run(date_anew(i)), ROW); }
+static void run_anew_copy(size_t i) { copy_run(date_anew(i)); }
+
+static void run_idle(size_t i) { must_be("cells moved by nothing", run(picks[i].date), 0); }
+static void run_idle_copy(size_t i) {
+    copy_sets_out(picks[i].date);
+    copy_out(column_at(picks[i].date, 0), ROW_BYTES);
+}
+
+static void totals(size_t i) { read_totals(picks[i].date, picks[i].category); }
+static void totals_copy(size_t i) { copy_columns(picks[i].date, YEAR, picks[i].category); }
+
+static void cell(size_t i) { read_cell(picks[i].date, picks[i].category, picks[i].period); }
+static void cell_copy(size_t i) {
+    copy_out(column_at(picks[i].date, picks[i].category) + picks[i].period - 1, 8);
+}
+
+/* The imports that are netted are categories 0 to 13, their exports 14 to 27. */
+static void net_own(size_t i) { read_net(picks[i].date, picks[i].category % GROUPS, 0); }
+static void net_own_copy(size_t i) {
+    copy_columns(picks[i].date, WEEK, picks[i].category % GROUPS);
+    copy_columns(picks[i].date, WEEK, picks[i].category % GROUPS + GROUPS);
+}
+
+static void net_all(size_t i) { read_net(picks[i].date, picks[i].category % GROUPS, 1); }
+static void net_all_copy(size_t i) {
+    for (size_t back = 0; back < WEEK; back++)
+        copy_out(column_at(picks[i].date - back, 0), 2 * GROUPS * COLUMN_BYTES);
+}
+
+/* After each 75 receptions the date of the last is run, and its totals are read. */
+static void duty(size_t first) {
+    for (size_t i = first; i < first + DUTY_RECEPTIONS; i++) {
+        receive_any(i);
+        if (i % DUTY_INTERVAL != DUTY_INTERVAL - 1) continue;
+        run(picks[i].date);
+        for (size_t c = 0; c < CATEGORIES; c++) read_totals(picks[i].date, c);
+    }
+}
+static void duty_copy(size_t first) {
+    for (size_t i = first; i < first + DUTY_RECEPTIONS; i++) {
+        receive_any_copy(i);
+        if (i % DUTY_INTERVAL != DUTY_INTERVAL - 1) continue;
+        copy_run(picks[i].date);
+        for (size_t c = 0; c < CATEGORIES; c++) copy_columns(picks[i].date, YEAR, c);
+    }
+}
+
+/* All dates have one day type, and copy the first. */
+static void one_day_type(void) {
+    memset(day_types, 1, DATES);
+    open_and_register();
+    receive_date(0, 0);
+    for (size_t d = 0; d < DATES; d++) run_first(d);
+}
+static void receive_first(void) { receive_date(0, !half_held[0]); }
+static void run_worst(size_t i) {
+    must_be("cells moved by the worst run", run(i), (int64_t)store.cells_length);
+}
+static void run_worst_copy(size_t i) {
+    copy_sets_out(i);
+    for (size_t d = 0; d < DATES; d++) copy_out_and_back(column_at(d, 0), ROW_BYTES);
+}
+
+static void band_of_all(size_t i) { search_band(picks[i].category, 1, 0, UINT64_MAX, DATES); }
+static void band_of_none(size_t i) { search_band(picks[i].category, 1, 1, 2, 0); }
+static void band_copy(size_t i) { copy_columns(DATES - 1, DATES, picks[i].category); }
+static void other_type(size_t i) { search_band(picks[i].category, 2, 0, UINT64_MAX, 0); }
+static void other_type_copy(size_t i) {
+    (void)i;
+    copy_out(store.settings + store.settings_length - DATES, DATES);
+}
+
+struct row {
+    const char *call, *touched;
+    size_t calls, first_date;               /* of a round; picks have no earlier date */
+    void (*begin)(void), (*prepare)(void);  /* before the first round, and before each */
+    void (*work)(size_t i), (*copy)(size_t i);
+};
+
+#define A_DATE "795 KB of readings, 49 KB of cells"
+
+static const struct row rows[] = {
+    {"opening", "675 MB written (memset)", 1, 0, NULL, NULL, open_once, open_copy},
+    {"registration, new meter", "4 KB of MPANs (mean), 48 B and back", METERS, 0,
+     NULL, open_store, new_meter, new_meter_copy},
+    {"registration, known meter", "the same, and 799 × 8 B of readings", METERS, 0,
+     NULL, open_and_register, known_meter, known_meter_copy},
+    {"reception of 96 records, meters in order", "776 B into readings", DATES_IN_ORDER * METERS, 0,
+     fill_store, NULL, receive_in_order, receive_in_order_copy},
+    {"reception of 96 records, meter and date at random", "776 B into readings", 20000, 0,
+     NULL, NULL, receive_any, receive_any_copy},
+    {"run, first of a date, 1,024 sets", A_DATE " and back", DATES, 0,
+     NULL, empty_cells, run_first, copy_run},
+    {"run, 1,024 new sets", A_DATE " and back", DATES_ANEW, 0,
+     NULL, receive_anew, run_anew, run_anew_copy},
+    {"run, nothing changed", A_DATE, 200, 0, NULL, NULL, run_idle, run_idle_copy},
+    {"totals read over 365 dates", "365 × 768 B of cells", 400, YEAR - 1,
+     NULL, NULL, totals, totals_copy},
+    {"cell read", "8 B of cells", PICKS, 0, NULL, NULL, cell, cell_copy},
+    {"net read, own group", "7 × 2 × 768 B of cells", 10000, WEEK - 1,
+     NULL, NULL, net_own, net_own_copy},
+    {"net read, all groups, 14 and 14", "7 × 21.5 KB of cells", 2000, WEEK - 1,
+     NULL, NULL, net_all, net_all_copy},
+    {"a day's duty: 7,200 receptions, 96 runs, 64 totals after each", "as for each of these calls",
+     1, DATES - DUTY_DATES, NULL, NULL, duty, duty_copy},
+    {"the worst run: the first of 800 dates, 4,915,200 cells move",
+     "795 KB of readings, 39 MB of cells and back", 1, 0,
+     one_day_type, receive_first, run_worst, run_worst_copy},
+    {"band search, all 800 dates are in the band", "800 × 768 B of cells", 40, 0,
+     NULL, NULL, band_of_all, band_copy},
+    {"band search, none of 800 dates is", "800 × 768 B of cells", 40, 0,
+     NULL, NULL, band_of_none, band_copy},
+    {"band search, no date has the day type", "800 B of settings", 2000, 0,
+     NULL, NULL, other_type, other_type_copy},
+};
+
+/* ---- rounds, and the table */
+
+/* Nanoseconds of one call. */
+static double time_of(void (*work)(size_t), size_t calls) {
+    struct timespec start, end;
+    clock_gettime(CLOCK_MONOTONIC, &start);
+    for (size_t i = 0; i < calls; i++) work(i);
+    clock_gettime(CLOCK_MONOTONIC, &end);
+    double seconds = (double)(end.tv_sec - start.tv_sec);
+    return (1e9 * seconds + (double)(end.tv_nsec - start.tv_nsec)) / (double)calls;
+}
+
+static int ascending(const void *first, const void *second) {
+    double a = *(const double *)first, b = *(const double *)second;
+    return (a > b) - (a < b);
+}
+
+static double median(double *samples, size_t count) {
+    qsort(samples, count, sizeof *samples, ascending);
+    return (samples[(count - 1) / 2] + samples[count / 2]) / 2;
+}
+
+/* The unit's name, and its size in nanoseconds. */
+static const char *unit_of(double time, double *size) {
+    static const char *const names[] = {"ns", "µs", "ms", "s"};
+    size_t k = 0;
+    for (*size = 1; k < 3 && time >= 999.5 * *size; k++) *size *= 1000;
+    return names[k];
+}
+
+static void print_row(const struct row *row, double *times, double *copies, size_t rounds) {
+    double time = median(times, rounds), copy = median(copies, rounds);
+    double least = times[0], most = times[rounds - 1], size;
+    const char *unit = unit_of(time, &size);
+    printf("| %-61s | %.3g %s | ", row->call, time / size, unit);
+    unit = unit_of(most, &size);
+    printf("%.3g to %.3g %s | ", least / size, most / size, unit);
+    unit = unit_of(copy, &size);
+    printf("%s | %.3g %s | %.3g |\n", row->touched, copy / size, unit, time / copy);
+    fflush(stdout);
+}
+
+static void time_row(const struct row *row, size_t rounds) {
+    double times[MOST_ROUNDS], copies[MOST_ROUNDS];
+    if (row->begin) row->begin();
+    for (size_t k = 0; k < rounds; k++) {
+        draw_picks(row->first_date);
+        if (row->prepare) row->prepare();
+        times[k] = time_of(row->work, row->calls);
+        draw_picks(row->first_date); /* others, which no cache holds from the calls */
+        copies[k] = time_of(row->copy, row->calls);
+    }
+    print_row(row, times, copies, rounds);
+}
+
+static void print_sizes(size_t rounds) {
+    size_t settings = store.settings_length, meters = 8 * store.meters_length;
+    size_t readings = 8 * store.readings_length, cells = 8 * store.cells_length;
+    struct rusage usage;
+    getrusage(RUSAGE_SELF, &usage);
+    printf("\n%d meters, %d categories, %d dates, %d periods; %zu rounds; parts in bytes: settings "
+           "%zu, meters %zu, readings %zu, cells %zu, all %zu; peak resident memory %ld KiB.\n",
+           METERS, CATEGORIES, DATES, PERIODS, rounds, settings, meters, readings, cells,
+           settings + meters + readings + cells, usage.ru_maxrss);
+}
+
+int main(int count, char **words) {
+    char *end = "";
+    long rounds = count > 1 ? strtol(words[1], &end, 10) : LEAST_ROUNDS;
+    if (count > 2 || *end || rounds < LEAST_ROUNDS || rounds > MOST_ROUNDS) {
+        fprintf(stderr, "usage: bench [ROUNDS], %d to %d\n", LEAST_ROUNDS, MOST_ROUNDS);
+        return 2;
+    }
+    make_data();
+    make_parts();
+    open_store(); /* no timed call is the first to touch the memory */
+    printf("| %-61s | median | least to most | memcpy of | median | ratio |\n", "call");
+    puts("|---|---|---|---|---|---|");
+    for (size_t r = 0; r < sizeof rows / sizeof *rows; r++) time_row(&rows[r], (size_t)rounds);
+    print_sizes((size_t)rounds);
+    return 0;
+}

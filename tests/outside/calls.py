@@ -1,0 +1,391 @@
+"""Replays random lists of calls on the compiled library, against the plain ledger.
+
+    python3 calls.py LIBRARY [--calls N] [--seed S]
+
+LIBRARY is the shared library of include/jihoweka.h; library.py has what is tested
+of each call. Lists have the seeds S, S + 1 and so on, until N calls are made, so
+--calls 1 replays the list with seed S alone. Some lists are on a store of random
+bytes, and in some the store is damaged on the way. Exit status 1 at the first
+difference, at an access past an array, at a call that does not end, and if a
+number that can be reached was not.
+"""
+
+import argparse
+import faulthandler
+import mmap
+import multiprocessing
+import random
+import struct
+import sys
+from collections import Counter
+
+from ledger import DAY, EXPORT, IMPORT, Category, Ledger, Registration, opening
+from library import (ARRAYS, BITS, CALLS, FIELDS, HEADER, PARTS, WIDTHS, Difference, Library,
+                     Store, described, sizes_of, to_be_reached)
+from streams import TOP, category_bytes, valid_mpan
+
+SECONDS = 60                               # after which a list of calls does not end
+LONGEST = 100_000                          # entries of an array; a longer one is not lent here
+# How often each call is made once the first meters are registered.
+TURNS = {'opening': 1, 'registration': 10, 'reception': 26, 'run': 15, 'totals': 12, 'cell': 12,
+         'net': 12, 'band': 12}
+
+
+class Caller:
+    """One list of calls: a turn is the method of that name, which gives the call's arguments."""
+
+    def __init__(self, library, reached, note, seed):
+        self.rng = random.Random(seed)
+        self.store = Store(library, reached)
+        self.note, self.seed, self.made = note, seed, 0
+        self.fault_rate = self.rng.choice((0, 0.1, 0.2, 0.3, 0.4))
+        self.aim(opening(*self.good_opening()))
+
+    def aim(self, ledger):
+        """Few dates, periods and meters, so that readings meet; one meter more than fit."""
+        self.aims, self.waiting = ledger, []
+        firsts = [1, 10 ** 12 - 1, *(self.rng.randrange(2, 10 ** 12) for _ in range(3))]
+        self.mpans = [valid_mpan(first) for first in firsts[:ledger.meters + 1]]
+        self.dates = range(ledger.dates)
+        if ledger.dates > 10:              # the ledger is quick where few are run
+            self.dates = [0, 6, 7, 364, 365, 370, ledger.dates - 4, ledger.dates - 1]
+        seven = 7 * ledger.periods // 24   # the last period of the first window
+        self.periods = [1, 2, seven, seven + 1, ledger.periods]
+
+    def chance(self, share):
+        return self.rng.random() < share
+
+    # Lists
+
+    def replay(self):
+        """The whole list; gives the number of its calls."""
+        kind, = self.rng.choices(('made', 'damaged', 'random'), (5, 2, 2))
+        if kind == 'random':
+            self.scramble()
+        while kind != 'random' and self.store.ledger is None:
+            self.make('opening')
+        self.turns(120)
+        for _ in range(9 if kind == 'damaged' else 0):
+            self.damage()                  # of what the calls had made, each time
+            self.turns(10)
+        return self.made
+
+    def turns(self, count):
+        for name in self.rng.choices(list(TURNS), list(TURNS.values()), k=count):
+            self.make(name)
+
+    def make(self, name, arguments=None):
+        """One call, with random arguments unless they are given."""
+        if arguments is None:
+            arguments = self.spoiled(name, getattr(self, name)())
+        store, given = self.store, dict(zip(CALLS[name].arguments, arguments))
+        for each in (*CALLS[name].lists, 'fields'):
+            given[each] = self.rng.randbytes(WIDTHS[each] * self.length(each))
+        given.update(self.lent_parts(name, arguments))
+        self.made += 1
+        text = f'list with seed {self.seed}, call {self.made}: {described(name, given)}\0'
+        self.note[:len(text)] = text.encode()
+        store.call(name, given, null=self.chance(0.5))
+        if store.ledger is not None and store.ledger is not self.aims:
+            self.aim(store.ledger)
+            self.settle()
+
+    def settle(self):
+        """The first meters of a store, sometimes one registered on each date, and first days."""
+        meters = self.mpans[:-1]
+        for place, mpan in enumerate(meters):
+            _, date, minute, _, *rest = self.registration()
+            category = place % len(self.aims.categories)
+            self.make('registration', [mpan, date, minute, category, *rest])
+        if self.aims.dates >= 9 and self.chance(0.3):
+            for date in range(9):
+                self.make('registration', [meters[0], date, 0, self.category(), 7, 1, TOP])
+        for date in self.rng.sample(self.dates, min(3, len(self.dates))):
+            for mpan in meters:
+                self.make('reception', self.reception(mpan, date))
+            self.make('run', [date])
+
+    # What is lent
+
+    def length(self, array):
+        """Of a list for results, in entries."""
+        rng, periods = self.rng, self.aims.periods
+        if array == 'fields':
+            return FIELDS if self.chance(0.94) else rng.choice((0, 1, 10, 11, 12, 20))
+        if array == 'dates':
+            return rng.choice((0, 1, 2, 3, 12))
+        return periods + (rng.randint(0, 2) if self.chance(0.95) else rng.choice((-1, -periods)))
+
+    def lent_parts(self, name, arguments):
+        """The parts as they stand, now and then one of another length about its least."""
+        rng, parts = self.rng, CALLS[name].parts
+        lent = {part: self.store.parts[part] for part in parts}
+        least = {part: len(contents) // WIDTHS[part] for part, contents in lent.items()}
+        if name != 'opening' and self.store.sizes:
+            least = self.store.sizes.least()
+        if name == 'opening' and isinstance(ledger := opening(*arguments), Ledger):
+            least = sizes_of(ledger).least()
+            for part in parts:
+                lent[part] = self.resized(part, least[part] + rng.choice((0, 0, 1, 2)))
+        if self.chance(0.1):
+            part = rng.choice(parts)
+            lent[part] = self.resized(part, rng.choice((
+                0, least[part] - 2, least[part] - 1, least[part] - 1, least[part], least[part] + 1,
+                rng.randint(0, least[part]))))
+        return lent
+
+    def resized(self, part, length):
+        """The part cut to this length, or with anything behind it."""
+        size = WIDTHS[part] * max(0, min(length, LONGEST))
+        contents = self.store.parts[part][:size]
+        return contents + self.rng.randbytes(size - len(contents))
+
+    # Stores that the calls did not make
+
+    def strange(self, count):
+        """Entries of all kinds: none, small, readings, cells, MPANs, anything."""
+        rng, flag = self.rng, self.rng.randrange(8)
+        kinds = [0, 0, 0, 1, 2, 3, 2 ** 32 + 500, 2 ** 33, 500 * 2 ** 32 + 65536 + 8 + flag,
+                 2 ** 64 - 8 + flag, *self.mpans, *(rng.getrandbits(64) for _ in range(4))]
+        return struct.pack(f'{count}Q', *rng.choices(kinds, k=count))
+
+    def scramble(self):
+        """Random parts, mostly with a header that says opened and long enough for it."""
+        rng, sizes = self.rng, sizes_of(self.aims)
+        parts = {part: self.strange(min(length + rng.randint(0, 1), LONGEST))
+                 for part, length in sizes.least().items()}
+        settings = rng.randbytes(sizes.least()['settings'])
+        if self.chance(0.5):               # with the category records of an opening
+            records = b''.join(map(category_bytes, self.aims.categories))
+            settings = settings[:8] + records + settings[8 + len(records):]
+        if self.chance(0.9):
+            settings = struct.pack(HEADER, *sizes) + settings[8:]
+        self.store.replace({**parts, 'settings': settings})
+
+    def damage(self):
+        """Other entries here and there, and registrations for categories that there are not."""
+        rng, aims = self.rng, self.aims
+        if self.store.ledger is not None:
+            self.intact = dict(self.store.parts)
+        parts = {part: bytearray(contents) for part, contents in self.intact.items()}
+        for part in PARTS:
+            for _ in range(rng.randrange(4)):
+                at = WIDTHS[part] * rng.randrange(len(parts[part]) // WIDTHS[part])
+                if part != 'settings':
+                    parts[part][at:at + 8] = self.strange(1)
+                elif at >= 8 or self.chance(0.3):      # the header less often
+                    parts[part][at] = rng.choice((0, 1, 2, 3, 15, 30, 255, parts[part][at] ^ 1))
+        if self.chance(0.5):
+            entry = aims.meters + 40 * rng.randrange(min(aims.meters, 3)) + 1
+            number = len(aims.categories) + rng.choice((0, 1, 2 ** 8, 2 ** 32, 2 ** 63))
+            struct.pack_into('Q', parts['meters'], 8 * entry, number)
+        self.store.replace({part: bytes(contents) for part, contents in parts.items()})
+
+    # Arguments
+
+    def faults(self):
+        """How many to put into a call: mostly none, sometimes several."""
+        count = 0
+        while self.chance(self.fault_rate):
+            count += 1
+        return count
+
+    def spoiled(self, name, arguments):
+        """The same arguments with some numbers replaced by others, mostly out of range."""
+        rng, aims = self.rng, self.aims
+        for _ in range(self.faults()):
+            at = rng.randrange(len(arguments))
+            argument, good = CALLS[name].arguments[at], arguments[at]
+            if argument in ARRAYS:
+                continue
+            near = {'date': aims.dates, 'category': len(aims.categories), 'mpan': 10 ** 13,
+                    'period': aims.periods + 1, 'minute': DAY, 'status': 4, 'meter_count': 1025,
+                    'day_type': 17, 'duration': 45 - good, 'quantity': 3 - good}
+            number = rng.choice((0, near.get(argument, good + 1), near.get(argument, good + 1),
+                                 good ^ 1, good + 2 ** 8, good + 2 ** 16, good + 2 ** 32,
+                                 good + 2 ** 63, 2 ** 16, 2 ** 32, 2 ** 63, 2 ** 64 - 1,
+                                 rng.getrandbits(64)))
+            arguments[at] = number % 2 ** BITS.get(argument, 64)
+        return arguments
+
+    def good_opening(self):
+        """Mostly small ones, for which the ledger is quick; a few at the ends of the ranges."""
+        rng = self.rng
+        dates, meters = rng.randint(1, 5), rng.choice((1, 2, 3, 4, 4))
+        count = rng.choice((1, 2, 2, 3, 4))             # of categories
+        if self.chance(0.12):
+            dates, count = rng.randint(9, 10), rng.randint(1, 2)
+        elif self.chance(0.02):
+            dates, count, meters = rng.choice((
+                (800, 1, 1), (375, 2, 1), (1, 64, 2), (1, 1, 1024), (800, 64, 1024)))
+        categories, home = {}, (rng.randint(1, 2), rng.randint(1, 4))
+        while len(categories) < count:     # mostly of two families, import and export
+            domestic, connection = home
+            if self.chance(0.15):
+                domestic, connection = rng.randint(1, 2), rng.randint(1, 4)
+            smart = self.chance(0.9)
+            category = Category(1 if smart else 2, smart * rng.randint(1, 2 if count < 9 else 14),
+                                smart * domestic, rng.randint(1, 2), connection,
+                                smart * rng.randint(0, 2), rng.choice((0, 1, 1, 1, 2, 2, 3)))
+            categories[category.key] = category
+        types = rng.sample(range(1, 17), rng.randint(1, 2))
+        return [15 if self.chance(0.15) else 30, meters,
+                b''.join(map(category_bytes, categories.values())),
+                bytes(rng.choices(types, k=dates))]
+
+    def opening(self):
+        rng = self.rng
+        duration, meters, records, types = self.good_opening()
+        for _ in range(self.faults()):
+            fault = rng.choice(('record', 'record', 'twin', 'twin', 'cut', 'records',
+                                'type', 'type', 'types'))
+            if fault == 'record':
+                records = self.replaced(records, (0, 1, 3, 5, 15, 255))
+            elif fault == 'twin':          # alike in the key only
+                records += records[:5] + bytes((0, 0, 9))
+            elif fault == 'cut':
+                records = records[:-1]
+            elif fault == 'records':
+                records = rng.choice((b'', (65 * records)[:65 * 8]))
+            elif fault == 'type':
+                types = self.replaced(types, (0, 17, 255))
+            elif fault == 'types':
+                types = rng.choice((b'', (801 * types)[:801]))
+        return [duration, meters, records, types]
+
+    def replaced(self, contents, values):
+        """With another byte in one place."""
+        at = self.rng.randrange(len(contents) or 1)
+        return contents[:at] + bytes([self.rng.choice(values)]) + contents[at + 1:]
+
+    def category(self):
+        return self.rng.randrange(len(self.aims.categories))
+
+    def registration(self):
+        rng, mpan = self.rng, self.rng.choice(self.mpans)
+        first = mpan not in self.aims.registrations and self.chance(0.9)
+        return [mpan, 0 if first else rng.choice(self.dates),
+                0 if first or self.chance(0.6) else rng.randrange(DAY), self.category(),
+                rng.choice((7, 7, 8, 0, 65535)), rng.choice((1, 1, 1, 1, 1, 1, 2, 3)),
+                rng.choice((1000, 1000, 1000, 5, 0, TOP))]
+
+    def reception(self, mpan=None, date=None):
+        rng, aims = self.rng, self.aims
+        if mpan is None:
+            known = self.chance(0.95) and list(aims.registrations)
+            mpan, date = rng.choice(known or self.mpans), rng.choice(self.dates)
+        self.waiting.append(date)
+        registration = aims.in_force(mpan, date) or Registration(0, 0, 7, 1, 1000)
+        return [registration.sender, mpan, date, aims.duration,
+                aims.categories[registration.category].quantity, self.body(registration)]
+
+    def body(self, registration):
+        """Records that are good for this registration, but for faults."""
+        rng, aims = self.rng, self.aims
+        most = min(registration.limit, rng.choice((3, 1000, 1000, TOP)))
+        periods = rng.sample(self.periods, rng.choice((0, 1, 2, 3, 3, 4, 4, 5, 5, 5)))
+        if self.chance(0.15):
+            periods = range(1, aims.periods + 1)
+        if registration.status == 3 and self.chance(0.7):
+            periods = ()
+        records = [[aims.duration * period, rng.randint(1, 9 if self.chance(0.2) else 7),
+                    rng.randint(0, most)] for period in periods]
+        for _ in range(self.faults() if records else 0):
+            record = rng.choice(records)
+            fault = rng.choice(('quality', 'zero', 'end', 'twice', 'limit'))
+            if fault == 'quality':
+                record[1] = rng.choice((0, 8, 9, 10, 13, 14, 15, 255))
+            elif fault == 'zero':
+                record[1:] = rng.randint(9, 14), rng.choice((0, 0, 1, 256, TOP))
+            elif fault == 'end':
+                record[0] = rng.choice((0, record[0] ^ 1, DAY + aims.duration, 65535))
+            elif fault == 'twice':
+                records.insert(rng.randint(0, len(records)), [record[0], 14, 0])
+            elif fault == 'limit':
+                record[2] = min(TOP, registration.limit + rng.randint(0, 1))
+        body = b''.join(struct.pack('>HBI', *record) for record in records)
+        return body[:-1] if self.chance(self.fault_rate / 8) else body
+
+    def run(self):
+        """Mostly a date that sets were received for since, the last one first."""
+        if self.waiting and self.chance(0.7):
+            return [self.waiting.pop()]
+        return [self.rng.choice(self.dates)]
+
+    def date_to_read(self):
+        """Mostly one that was run, else one that was not."""
+        run = self.chance(0.85)
+        fit = [date for date in self.dates if (date in self.aims.pictures) == run]
+        return self.rng.choice(fit or self.dates)
+
+    def totals(self):
+        return [self.date_to_read(), self.category()]
+
+    def cell(self):
+        last = self.aims.periods
+        period = self.rng.choice(self.periods) if self.chance(0.9) else self.rng.randint(1, last)
+        return [self.date_to_read(), self.category(), period]
+
+    def net(self):
+        rng, aims = self.rng, self.aims
+        netted = [number for number, category in enumerate(aims.categories)
+                  if category.quantity == IMPORT and aims.side(category, EXPORT, True)]
+        category = rng.choice(netted) if netted and self.chance(0.9) else self.category()
+        all_groups = rng.choice((0, 0, 0, 0, 1, 2, 2 ** 8, 2 ** 16, 2 ** 32, 2 ** 63))
+        return [self.date_to_read(), category, all_groups]
+
+    def band(self):
+        """Ends at the TOT of a run date, next to it, or far off."""
+        rng, aims, category = self.rng, self.aims, self.category()
+        ends = [0, 2 ** 64 - 1]
+        for _ in range(2 if aims.pictures else 0):
+            tot = aims.tot([rng.choice(list(aims.pictures))], category)
+            ends += tot, tot, max(0, tot + rng.choice((-1, 1)))
+        least, most = rng.choice(ends), rng.choice(ends)
+        if self.chance(0.8):
+            least, most = min(least, most), max(least, most)
+        day_type = rng.choice(aims.day_types) if self.chance(0.9) else rng.randint(0, 17)
+        return [category, day_type, least, most]
+
+
+def replay_lists(options, note):
+    """Lists until enough calls are made; ends the process with the test's exit status."""
+    library, reached = Library(options.library), Counter()
+    calls = lists = 0
+    while calls < options.calls:
+        faulthandler.dump_traceback_later(SECONDS, exit=True)
+        try:
+            calls += Caller(library, reached, note, options.seed + lists).replay()
+        except Difference as difference:
+            print(difference)
+            sys.exit(1)
+        lists += 1
+    note[0] = 0                            # all calls are made
+    missing = [f'{name} {number}' for name, number in to_be_reached() if not reached[name, number]]
+    if missing:
+        print('calls: reachable but not reached: ' + ', '.join(missing))
+        sys.exit(1)
+    print(f'calls: {calls:,} calls in {lists:,} lists, {reached["accepted"]:,} accepted, '
+          'all numbers reached')
+
+
+def main():
+    parser = argparse.ArgumentParser(description='Compares the C calls with the ledger.')
+    parser.add_argument('library', help='path of the shared library')
+    parser.add_argument('--calls', type=int, default=200_000)
+    parser.add_argument('--seed', type=int, default=1)
+    options = parser.parse_args()
+    # In a process of its own, since a wrong access ends it; the note says in which call.
+    note = mmap.mmap(-1, 1 << 14)
+    worker = multiprocessing.get_context('fork').Process(target=replay_lists, args=(options, note))
+    worker.start()
+    worker.join()
+    if worker.exitcode < 0:
+        print(f'ended by signal {-worker.exitcode}')
+    if worker.exitcode:
+        print(note[:note.find(b'\0')].decode())
+    return 1 if worker.exitcode else 0
+
+
+if __name__ == '__main__':
+    sys.exit(main())

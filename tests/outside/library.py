@@ -1,0 +1,333 @@
+"""The compiled library's calls, each tested against the plain ledger.
+
+An array that is lent stands in memory of its own, with marked bytes before its
+first entry and a page behind its last that nobody may touch: an access past its
+end ends the process, and a write before it is found.
+
+On a store that the calls made, every answer must be the ledger's. On any other,
+only what holds of every store is tested: the refusals for lengths and for
+arguments out of range, what else a call may answer, and what it must leave alone.
+"""
+
+import ctypes
+import mmap
+import struct
+from typing import NamedTuple
+
+from ledger import DAY, Ledger, mpan_good, no, opening
+
+FIELDS = 11                                # entries that `fields` has at least
+HEADER = '>4H'                             # of the settings: duration, meters, categories, dates
+
+# Each array that a call may be lent, with the struct letter of its entries.
+ARRAYS = {'settings': 'B', 'meters': 'Q', 'readings': 'Q', 'cells': 'Q',
+          'category_records': 'B', 'day_types': 'B', 'body': 'B',
+          'numbers': 'q', 'marks': 'B', 'dates': 'Q', 'fields': 'q'}
+WIDTHS = {name: struct.calcsize(letter) for name, letter in ARRAYS.items()}
+PARTS = ('settings', 'meters', 'readings', 'cells')
+BITS = {'sender': 16, 'limit': 32}         # of a number; all others have 64
+
+
+class Call(NamedTuple):
+    """A function of the header. Its parameters are parts, arguments, lists and `fields`."""
+    function: str
+    parts: list                            # lent
+    written: list                          # the parts among them that it writes
+    arguments: list                        # numbers and lists, in the ledger's order too
+    lists: list                            # lent for results
+    results: int                           # how many stand in `fields`
+    checks: tuple                          # their numbers, in their order
+    parameters: list
+
+
+def call(function, parts, written, arguments, lists, results, *checks):
+    parts, written, arguments, lists = (
+        names.split() for names in (parts, written, arguments, lists))
+    return Call(function, parts, written, arguments, lists, results, checks,
+                [*parts, *arguments, *lists, 'fields'])
+
+
+# By the names of the ledger's calls. A further one is a line here, and in calls.py a turn and the
+# method that makes its arguments.
+CALLS = {
+    'opening': call('jihoweka_open', 'settings meters readings cells',
+                    'settings meters readings cells',
+                    'duration meter_count category_records day_types', '', 0, 3, 4, 5, 1),
+    'registration': call('jihoweka_register', 'settings meters readings', 'meters',
+                         'mpan date minute category sender status limit', '', 0,
+                         1, 9, 6, 16, 8, 10, 11, 12),
+    'reception': call('jihoweka_receive', 'settings meters readings', 'readings',
+                      'sender mpan date duration quantity body', '', 0,
+                      1, 9, 6, 7, 2, 1001, 1002, 1004, 13, 1005, 1006, 1008, 1009, 1011, 1012),
+    'run': call('jihoweka_run', 'settings meters readings cells', 'cells', 'date', '', 1, 1, 9),
+    'totals': call('jihoweka_read_totals', 'settings cells', '', 'date category', '', 11,
+                   1, 9, 15, 14),
+    'cell': call('jihoweka_read_cell', 'settings cells', '', 'date category period', '', 4,
+                 1, 9, 15, 14),
+    'net': call('jihoweka_read_net', 'settings cells', '', 'date category all_groups',
+                'numbers marks', 2, 1, 9, 15, 26, 14),
+    'band': call('jihoweka_search_band', 'settings cells', '', 'category day_type least most',
+                 'dates', 2, 1, 15),
+}
+FOR_ARGUMENTS = (1, 9, 6, 16, 15)          # checks that any store answers alike
+OF_RECORDS = (1005, 1006, 1008, 1009, 1011, 1012)      # with a place always, 13 with one or none
+
+
+def to_be_reached():
+    """(call, number) of all that must have been heard; what has two forms, in both."""
+    keys = [(name, number) for name, made in CALLS.items() for number in (0, *made.checks)]
+    keys += [('net of all groups', number) for number in (0, *CALLS['net'].checks)]
+    return [*keys, ('reception of a bad record', 13)]
+
+
+def described(name, given):
+    """A call with its numbers and the lists that it is given, and how long the others are."""
+    shown = []
+    for parameter in CALLS[name].parameters:
+        value = given[parameter]
+        if parameter not in ARRAYS:
+            shown.append(f'{parameter} {value}')
+        elif parameter in CALLS[name].arguments:
+            shown.append(f'{parameter} {value.hex() or "empty"}')
+        else:
+            shown.append(f'{parameter}[{len(value) // WIDTHS[parameter]}]')
+    return f'{CALLS[name].function}: {", ".join(shown)}'
+
+
+class Difference(Exception):
+    """What came is not what must come; its text says how."""
+
+
+class Memory:
+    """Where an array stands whenever it is lent: right before a page that nobody may touch."""
+
+    ROOM = 1 << 20                         # bytes, in whole pages
+    MARKS = bytes((37 * k + 101) % 256 for k in range(64))
+
+    def __init__(self, name):
+        self.name = name
+        self.memory = mmap.mmap(-1, self.ROOM + mmap.PAGESIZE)
+        self.end = ctypes.addressof(ctypes.c_char.from_buffer(self.memory)) + self.ROOM
+        protect = ctypes.CDLL(None, use_errno=True).mprotect
+        if protect(ctypes.c_void_p(self.end), ctypes.c_size_t(mmap.PAGESIZE), 0):
+            raise OSError(ctypes.get_errno(), 'no page could be closed')
+        self.contents = None
+
+    def lend(self, contents, null):
+        """Pointer and count of entries; null says how an empty array is lent."""
+        if contents is not self.contents:  # else they stand there since the last call
+            begin = self.ROOM - len(contents) - len(self.MARKS)
+            self.memory[begin:self.ROOM] = self.MARKS + contents
+            self.contents = contents
+        pointer = None if null and not contents else self.end - len(contents)
+        return pointer, len(contents) // WIDTHS[self.name]
+
+    def taken_back(self):
+        """The contents after a call, the same object if they are the same."""
+        begin = self.ROOM - len(self.contents)
+        if self.memory[begin - len(self.MARKS):begin] != self.MARKS:
+            raise Difference(f'bytes before {self.name} were written')
+        after = self.memory[begin:self.ROOM]
+        if after != self.contents:
+            self.contents = after
+        return self.contents
+
+
+class Library:
+    def __init__(self, path):
+        library = ctypes.CDLL(path)
+        self.memory = {name: Memory(name) for name in ARRAYS}
+        self.functions = {}
+        for name, made in CALLS.items():
+            types = []
+            for parameter in made.parameters:
+                if parameter in ARRAYS:
+                    types += [ctypes.c_void_p, ctypes.c_size_t]
+                else:
+                    types += [getattr(ctypes, f'c_uint{BITS.get(parameter, 64)}')]
+            function = self.functions[name] = getattr(library, made.function)
+            function.restype, function.argtypes = ctypes.c_uint64, types
+
+    def call(self, name, given, null):
+        """The number returned, and what each array holds that was lent."""
+        passed, lent = [], []
+        for parameter in CALLS[name].parameters:
+            if parameter in ARRAYS:
+                lent.append(self.memory[parameter])
+                passed += lent[-1].lend(given[parameter], null)
+            else:
+                passed.append(given[parameter])
+        number = self.functions[name](*passed)
+        return number, {memory.name: memory.taken_back() for memory in lent}
+
+
+class Sizes(NamedTuple):
+    """What a store is opened for."""
+    duration: int
+    meters: int
+    categories: int
+    dates: int
+
+    @property
+    def periods(self):
+        return DAY // self.duration
+
+    def least(self):
+        """The least lengths of the parts in entries, as docs/STORE.md has them."""
+        return {'settings': 8 + 8 * self.categories + self.dates,
+                'meters': 41 * self.meters,
+                'readings': self.dates * self.meters * (1 + self.periods),
+                'cells': self.dates * self.categories * self.periods}
+
+
+def sizes_of(ledger):
+    return Sizes(ledger.duration, ledger.meters, len(ledger.categories), ledger.dates)
+
+
+def sizes_kept(settings):
+    """The sizes in the header of any settings, or None where they say unopened."""
+    if len(settings) < struct.calcsize(HEADER):
+        return None
+    sizes = Sizes(*struct.unpack_from(HEADER, settings))
+    opened = (sizes.duration in (15, 30) and 1 <= sizes.meters <= 1024
+              and 1 <= sizes.categories <= 64 and 1 <= sizes.dates <= 800)
+    return sizes if opened else None
+
+
+def short(given, sizes):
+    """Whether a part, or a list for the results of a net, has fewer entries than it must."""
+    least = {**sizes.least(), 'numbers': sizes.periods, 'marks': sizes.periods}
+    return any(len(given[array]) < WIDTHS[array] * least[array] for array in least.keys() & given)
+
+
+class Store:
+    """The parts, and the ledger for as long as the calls made what the parts hold."""
+
+    def __init__(self, library, reached):
+        self.library, self.reached = library, reached
+        self.parts = dict.fromkeys(PARTS, b'')
+        self.ledger = None
+        self.sizes = None                  # None while unopened
+
+    def replace(self, parts):
+        """Parts that the calls did not make, at least not alone."""
+        self.parts, self.ledger, self.sizes = parts, None, sizes_kept(parts['settings'])
+
+    def call(self, name, given, null):
+        """Makes the call, and tests all that comes of it."""
+        expected = self.expected(name, given)
+        number, after = self.library.call(name, given, null)
+        came = self.heard(name, number, after)
+        if expected is None:
+            self.test_possible(name, given, came)
+        elif came != expected:
+            raise Difference(f'expected {expected}\ncame     {came}')
+        self.test_unchanged(name, given, after, came)
+        if number == 0:
+            self.parts.update((part, after[part]) for part in CALLS[name].parts)
+        self.count(name, given, came, expected)
+
+    def expected(self, name, given):
+        """The answer that must come; None if it hangs on what the ledger does not know."""
+        made = CALLS[name]
+        if len(given['fields']) < WIDTHS['fields'] * FIELDS:
+            return no(1)
+        arguments = [given[argument] for argument in made.arguments]
+        if name == 'opening':              # it does not matter what the parts hold
+            ledger = opening(*arguments)
+            if not isinstance(ledger, Ledger):
+                return ledger
+            if short(given, sizes_of(ledger)):
+                return no(1)
+            self.ledger, self.sizes = ledger, sizes_of(ledger)
+            return ('ok',)
+        if self.sizes is None or short(given, self.sizes):
+            return no(1)
+        if self.ledger is None:
+            return self.refused_for_arguments(name, given)
+        lengths = [len(given[each]) // WIDTHS[each] for each in made.lists]
+        answer = getattr(self.ledger, name)(*arguments, *lengths)
+        if name == 'cell' and answer[0] == 'ok':
+            return 'ok', ord(answer[1]), *answer[2:]
+        return answer
+
+    def refused_for_arguments(self, name, given):
+        """The refusal that comes whatever the parts hold behind the header, or None."""
+        sizes, date, category = self.sizes, given.get('date', 0), given.get('category', 0)
+        if date >= sizes.dates:
+            return no(9)
+        if 'mpan' in given and not mpan_good(given['mpan']):
+            return no(6)
+        if name == 'registration':
+            start = date + (given['minute'] > 0)
+            if (given['minute'] >= DAY or category >= sizes.categories
+                    or given['status'] not in (1, 2, 3) or start >= sizes.dates):
+                return no(16)
+        elif category >= sizes.categories or not 1 <= given.get('period', 1) <= sizes.periods:
+            return no(15)
+        return None
+
+    def heard(self, name, number, after):
+        """What came, in the form of the ledger's answers."""
+        made = CALLS[name]
+        fields = [field for field, in struct.iter_unpack(ARRAYS['fields'], after['fields'])]
+        if number:
+            return no(number, fields[0] if len(fields) >= FIELDS else 0)
+        answer = 'ok', *fields[:made.results]
+        periods = self.sizes.periods if self.sizes else 0
+        for each in made.lists:
+            length = max(0, fields[0]) if each == 'dates' else periods
+            contents = after[each][:WIDTHS[each] * length]
+            answer = *answer, [entry for entry, in struct.iter_unpack(ARRAYS[each], contents)]
+        return answer
+
+    def test_possible(self, name, given, came):
+        """What holds of all other answers on any store."""
+        number, place = came[1:] if came[0] == 'no' else (0, 0)
+        records = len(given.get('body', b'')) // 7
+        places = {0} if number not in OF_RECORDS else range(1, records + 1)
+        if number == 13:
+            places = range(records + 1)
+        possible = (number in (0, *CALLS[name].checks) and number not in FOR_ARGUMENTS
+                    and place in places)
+        if number == 0 and name == 'cell':
+            possible &= came[1] in map(ord, 'ADEN')
+        if number == 0 and name == 'net':
+            possible &= set(came[4]) <= {0, 1}
+        if number == 0 and name == 'band':
+            possible &= came[1] == min(came[2], len(given['dates']) // WIDTHS['dates'])
+        if not possible:
+            raise Difference(f'came {came}, which cannot be')
+
+    def test_unchanged(self, name, given, after, came):
+        """Whether all that the call had no business to write is as it was."""
+        made, fronts = CALLS[name], {}     # array -> entries at its front that may be written
+        if came[0] == 'ok':
+            least = self.sizes.least()
+            fronts = {part: least[part] for part in made.written}
+            fronts.update(zip(made.lists, map(len, came[1 + made.results:])))
+            fronts['fields'] = made.results
+        elif len(given['fields']) >= WIDTHS['fields'] * FIELDS:
+            fronts['fields'] = 1
+        for array, contents in after.items():
+            if contents is given[array]:
+                continue
+            letter, front = ARRAYS[array], fronts.get(array, 0)
+            if contents[WIDTHS[array] * front:] != given[array][WIDTHS[array] * front:]:
+                entries = zip(struct.iter_unpack(letter, given[array]),
+                              struct.iter_unpack(letter, contents))
+                at, before, now = next((at, before, now) for at, (before, now)
+                                       in enumerate(entries) if at >= front and before != now)
+                raise Difference(f'came {came}, and entry {at} of {array} was changed '
+                                 f'from {before[0]} to {now[0]}')
+
+    def count(self, name, given, came, expected):
+        number, place = came[1:] if came[0] == 'no' else (0, 0)
+        self.reached['accepted'] += number == 0
+        if expected is None and number != 2:
+            return                         # only what the ledger said shows that it was tested
+        if name == 'net' and given['all_groups']:
+            name = 'net of all groups'
+        if number == 13 and place:
+            name = 'reception of a bad record'
+        self.reached[name, number] += 1
