@@ -1,9 +1,8 @@
 -- What a band search answers and leaves, where a check fails, where nothing can be found, and else.
 use Prim.Native.Nat.{ℕ, _≤_, _<_, min}
 use mathlib.Core.Path.{_≡_, refl, sym, ap, _∙_}
-use mathlib.Core.Bool.{Bool, true, false, not, _&&_, cond, and-eq-true-iff}
+use mathlib.Core.Bool.{true, false, not, _&&_, and-eq-true-iff}
 use mathlib.Core.List.{List, []}
-use native.Mathlib.Omega.{arith}
 use native.Mathlib.Nat.{min-zero}
 use lib.Dec.{leb}
 use lib.ListN.{length, take, length-take}

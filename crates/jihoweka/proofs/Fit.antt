@@ -1,6 +1,6 @@
 -- Every field of every answer fits a signed number of 64 bits, whatever the parts hold.
 use Prim.Native.Nat.{ℕ, zero, suc, _+_, _-_, _*_, _/_, _≤_, _<_, zero-le}
-use mathlib.Core.Path.{_≡_, refl}
+use mathlib.Core.Path.{_≡_}
 use mathlib.Core.Bool.{Bool, true, false, _&&_, cond, and-eq-true-iff}
 use mathlib.Core.List.{List}
 use mathlib.Core.Option.{Option, none, some}
@@ -18,9 +18,9 @@ use Rattle.metering.specs.Calendar.{liesWithin, windowStart, windowEnd}
 use Rattle.ledger.specs.Method.{Category, Flag, A, D, E, N, letterOf, isFresh, isBlank, Cell, overRunDates, totOn, offOn, peakOn, totalsOn}
 use Rattle.ledger.specs.Opening.{Opening, categories, dates}
 use Rattle.ledger.specs.Table.{tabulate}
-use Rattle.ledger.specs.Checks.{Registration, RegistrationCall, ReceptionCall, Verdict, verdict, firstFailed, orElse, sizesValid, openingCheck, bodyCheck, inForceCheck, receptionCheck, runCheck, readCheck, bandCheck, NetCall}
+use Rattle.ledger.specs.Checks.{Registration, RegistrationCall, ReceptionCall, Verdict, firstFailed, orElse, sizesValid, openingCheck, bodyCheck, inForceCheck, receptionCheck, runCheck, readCheck, bandCheck, NetCall}
 use Rattle.ledger.specs.Band.{BandCall, bandOn, bandDates}
-use Rattle.ledger.specs.Ledger.{Answer, answer, accepted, refused, moved, totalsAre, cellIs, netIs, bandIs}
+use Rattle.ledger.specs.Ledger.{Answer, answer, accepted, moved, totalsAre, cellIs, netIs, bandIs}
 use Rattle.ledger.specs.Store.{categoriesOf, datesOf, periodsOf, rowLength, dayTypeOf, settingsReady, readingsReady, cellsReady, cellOfEntry, cellIndex, isRunAt}
 use Rattle.ledger.specs.Calls.{Placing, putRow, openingVerdict, registrationVerdict, receptionVerdict, runUnready, runVerdict, rowAt, carriedEntry, comparedEntry, differing, follows, movedInRow, movedByRow, followRow, inheritedAfter, carryOn, settled, newRow, ranFrom, cellsUnready, totalsVerdict, cellVerdict, cellFor, totalsFor, netVerdict, netFor, bandVerdict, bandFor}
 use Rattle.ledger.specs.Ready.{Ready, ready, periods-bound, row-bounds}
@@ -33,11 +33,11 @@ use Rattle.store.specs.declared.outcome.NetOutcome.the-variants as net
 use Rattle.store.specs.declared.outcome.BandOutcome.{BandOutcome}
 use Rattle.store.specs.declared.outcome.BandOutcome.the-variants as band
 use Rattle.store.specs.Outcome.{netAnswer, bandAnswer}
-use Rattle.jihoweka.specs.Fields.{Fits, FieldsFit}
+use Rattle.fields.specs.Fields.{Fits, FieldsFit}
 
 -- ---- an answer
 
-pub answer-fits : (v : Verdict) (given : Answer) → Fits (v .place) → (v .number ≡ 0 → FieldsFit given) → FieldsFit (answer v given)
+answer-fits : (v : Verdict) (given : Answer) → Fits (v .place) → (v .number ≡ 0 → FieldsFit given) → FieldsFit (answer v given)
 unfolding answer
 answer-fits v given place fit = cases (eqb (v .number) 0) (λ q. rw q (fit (eqb-true _ _ q))) (λ q. rw q place)
 

@@ -1,32 +1,14 @@
--- Laws of the C calls: fields put to the front of the list, and what a call returns.
-use Prim.Native.Nat.{ℕ, zero, suc, _≤_, _<_}
-use mathlib.Core.Path.{_≡_, refl, sym, ap, _∙_}
-use mathlib.Core.Bool.{true, false, cond}
-use mathlib.Core.List.{List, [], _∷_, _++_}
-use native.Mathlib.Omega.{arith}
+-- Laws of the C calls: what a call returns, and leaves in its lists and parts.
+use Prim.Native.Nat.{ℕ, _≤_, _<_}
+use mathlib.Core.Path.{_≡_, ap, _∙_}
+use mathlib.Core.List.{List}
 use lib.IntN.{ℤ}
-use lib.ListN.{length, getD, take, drop}
-use lib.Seq.{take-suc, length-take-le}
+use lib.ListN.{length, take}
 use borrow.Author.Tests.{lt-ltb, le-ltb}
-use Rattle.ledger.specs.Table.{tabulate, filling}
 use Rattle.ledger.specs.Ledger.{Answer}
 use Rattle.ledger.specs.Calls.{overwritten}
-use Rattle.jihoweka.specs.declared.numbers.Numbers.{Numbers}
-use Rattle.jihoweka.specs.Fields.{numberOf, fieldsOf, Returned, unlessShort, AsNumbers}
-
--- ---- the front of a list
-
-module _ {A : Type 0} (d : A) where
-  front-is : (n : ℕ) (xs : List A) → n ≤ length xs → tabulate n (λ k. getD xs k d) ≡ take n xs
-  unfolding tabulate
-  front-is zero xs h = refl
-  front-is (suc n) xs h = rw (front-is n xs (omega arith), take-suc xs n d h)
-
-  pub front-filled : (n k : ℕ) (xs lent list : List A) → list ≡ filling k (λ i. getD xs i d) lent → k ≡ n → n ≤ length xs → list ≡ overwritten (take n xs) lent
-  unfolding filling overwritten
-  front-filled n k xs lent list so is h = so ∙ rw (is, front-is n xs h, length-take-le n xs h)
-
--- ---- what a call returns
+use Rattle.fields.specs.declared.numbers.Numbers.{Numbers}
+use Rattle.fields.specs.Fields.{numberOf, fieldsOf, Returned, unlessShort, AsNumbers}
 
 module _ (list : List ℤ) where
   pub list-short : (given : Answer) → length list < 11 → Returned list given 1 list

@@ -1,16 +1,13 @@
 // The library for C: every call as an exported function on numbers and slices. `include/jihoweka.h` declares them.
 // The number is returned; the other fields of the answer go to the front of the list `fields`, which is looked at before all else.
-mod numbers;
-
-use crate::numbers::FIELDS;
-use crate::numbers::of_band;
-use crate::numbers::of_cell;
-use crate::numbers::of_net;
-use crate::numbers::of_outcome;
-use crate::numbers::of_run;
-use crate::numbers::of_totals;
-use crate::numbers::put_fields;
 use engine::OpeningTerms;
+use fields::numbers::of_band;
+use fields::numbers::of_cell;
+use fields::numbers::of_net;
+use fields::numbers::of_outcome;
+use fields::numbers::of_run;
+use fields::numbers::of_totals;
+use fields::numbers::put_fields;
 ghost use mathlib.Core.Path.{_≡_};
 ghost use mathlib.Core.Bool.{not};
 ghost use lib.Dec.{eqb};
@@ -20,9 +17,12 @@ ghost use Rattle.registration.specs.Registration.{registrationCall};
 ghost use Rattle.reception.specs.Reception.{receptionCall};
 ghost use Rattle.net.specs.Asked.{netCall};
 ghost use Rattle.band.specs.Search.{bandCall};
-ghost use Rattle.jihoweka.specs.Fields.{Returned, unlessShort, OpeningLeaves};
+ghost use Rattle.fields.specs.Fields.{Returned, unlessShort, OpeningLeaves};
 
-// What a call returns where the list is too short for the fields.
+// How many entries the list has at least: the most fields that an answer has.
+const FIELDS: usize = 11;
+
+// What a call returns where the list has fewer.
 const SHORT: u64 = 1;
 
 #[no_mangle]

@@ -8,7 +8,7 @@ use lib.Dec.{eqb, leb, ltb}
 use lib.ListN.{length, take, length-take}
 use lib.Seq.{take-all}
 use borrow.Table.Steps.{cases}
-use borrow.Author.Tests.{eq-eqb, eqb-true, eqb-false, le-leb, leb-true, lt-leb, lt-ltb, le-ltb, ltb-true, ltb-false}
+use borrow.Author.Tests.{eq-eqb, eqb-true, eqb-false, le-leb, leb-true, lt-ltb, le-ltb, ltb-true, ltb-false}
 use Rattle.metering.specs.Range.{dayTypeValid}
 use Rattle.metering.specs.Laws.{between-true}
 use Rattle.ledger.specs.Table.{chosenBelow}
@@ -16,7 +16,7 @@ use Rattle.ledger.specs.Net.{anyOf}
 use Rattle.ledger.specs.Band.{BandCall, inBand, bandDates, bandOn}
 use Rattle.ledger.specs.Ledger.{dates, dayType, Ledger, isRun, totalsAt, bandAt}
 use Rattle.ledger.specs.Engine.{Every}
-use Rattle.ledger.specs.Demands.{InBand, withRoom, allDates, Upward, BandExact, BandCounts}
+use Rattle.ledger.specs.Demands.{InBand, allDates, Upward, BandExact, BandCounts}
 use Rattle.ledger.proofs.Chosen.{every-append, every-more, chosen-below, chosen-few}
 use Rattle.ledger.proofs.Nets.{anyOf-append}
 

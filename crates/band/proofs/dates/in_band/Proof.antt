@@ -1,6 +1,5 @@
 -- `in_band` meets its contract: each test that fails makes the definition's `&&` false, and the last one decides.
 use borrow.Author.Needs.{needs}
-use denote.Ref.{now}
 use Rattle.metering.specs.Laws.{test-failed, test-passed}
 use Rattle.band.proofs.Laws.{other-type, not-run, below-least, most-decides}
 use Rattle.band.proofs.dates.in_band.Statement.{statement}

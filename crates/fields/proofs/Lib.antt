@@ -1,0 +1,2 @@
+-- Laws that the proofs of an answer as numbers share.
+pub mod Laws

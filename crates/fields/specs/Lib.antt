@@ -1,0 +1,3 @@
+-- An answer as numbers, for callers in C.
+pub mod Fields
+pub mod Worked

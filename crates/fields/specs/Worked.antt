@@ -1,0 +1,24 @@
+-- Answers as numbers, worked out by hand: those of the scope paper's example, a cell, a net and a band.
+use mathlib.Core.Path.{_≡_, refl}
+use mathlib.Core.List.{List, [], _∷_, map}
+use lib.IntN.{pos, negsuc}
+use Rattle.ledger.specs.Method.{E, N}
+use Rattle.ledger.specs.Ledger.{cellIs, netIs, bandIs}
+use Rattle.ledger.specs.Marked.{exampleAnswers}
+use Rattle.fields.specs.Fields.{numberOf, fieldsOf}
+
+pub worked-fields :
+    (map numberOf exampleAnswers ≡ 0 ∷ 0 ∷ 0 ∷ 0 ∷ 0 ∷ 15 ∷ [])
+    × (map fieldsOf exampleAnswers
+    ≡ []
+    ∷ []
+    ∷ (pos 2 ∷ [])
+    ∷ (pos 2 ∷ [])
+    ∷ (pos 750 ∷ pos 500 ∷ pos 250 ∷ pos 1500 ∷ pos 1000 ∷ pos 500 ∷ pos 2 ∷ pos 273750 ∷ pos 2 ∷ pos 0 ∷ pos 46 ∷ [])
+    ∷ (pos 0 ∷ [])
+    ∷ [])
+    × (fieldsOf (cellIs (record { flag = E; value = 500; count = 1; origin = 0 })) ≡ pos 69 ∷ pos 500 ∷ pos 1 ∷ pos 0 ∷ [])
+    × (fieldsOf (cellIs (record { flag = N; value = 0; count = 0; origin = 65535 })) ≡ pos 78 ∷ pos 0 ∷ pos 0 ∷ pos 65535 ∷ [])
+    × (fieldsOf (netIs (record { tot = negsuc 9; tot7 = pos 50; periods = []; marks = [] })) ≡ negsuc 9 ∷ pos 50 ∷ [])
+    × (fieldsOf (bandIs (record { written = 2; found = 3; dates = 0 ∷ 2 ∷ [] })) ≡ pos 2 ∷ pos 3 ∷ [])
+worked-fields = (refl, refl, refl, refl, refl, refl)

@@ -1,0 +1,2 @@
+// An answer as numbers, for callers in C.
+pub mod numbers;

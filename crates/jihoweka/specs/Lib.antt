@@ -1,2 +1,0 @@
--- An answer as numbers, for callers in C.
-pub mod Fields
