@@ -14,6 +14,7 @@
    is neither read nor written. jihoweka_open makes a new, empty store and overwrites what the parts
    held. A store that was saved and loaded byte for byte is used as it is, and not opened again;
    that holds for one version of the library and one byte order. Parts full of zeros are unopened.
+   Header and library go together: a later version may lay the parts out anew and add arguments.
 
    What a call returns
      JIHOWEKA_ACCEPTED, or the number of the first check that failed; each call lists its checks in
@@ -25,10 +26,11 @@
      returns JIHOWEKA_SHORT before all its checks and writes nothing at all.
 
    What is promised whatever comes
-     Every value of every number is allowed, and is refused where it is out of range. (A sender has
-     16 bits and a limit 32, as in the trade's messages: C itself cuts down a wider number, so look
-     at it before.) Every content of the parts is allowed too, also parts that were damaged or do
-     not belong together: a call then ends, and reads and writes nothing outside its arrays.
+     Every value of every number is allowed, and is refused where it is out of range, but for a day
+     type that is searched for: of such a one there is no date. (A sender has 16 bits and a limit
+     32, as in the trade's messages: C itself cuts down a wider number, so look at it before.)
+     Every content of the parts is allowed too, also parts that were damaged or do not belong
+     together: a call then ends, and reads and writes nothing outside its arrays.
 
    The caller's duty, all of it
      - An array is a pointer and a count of its entries, and that many entries are there. A null
@@ -38,7 +40,8 @@
        lists for results alike.
      - While a call goes on, nothing else writes its arrays, and nothing else reads those that it
        writes. So calls on different stores may go on at the same time, and so may reads of one
-       store, each with `fields` and lists of its own. */
+       store, each with `fields` and lists of its own.
+     - There is stack for the call: 160 KB for jihoweka_run, 4 KB for any other. */
 #ifndef JIHOWEKA_H
 #define JIHOWEKA_H
 
@@ -126,11 +129,12 @@ enum { JIHOWEKA_WRITTEN, JIHOWEKA_FOUND };
                        Advanced), GSP group (1 to 14 for A B C D E F G H J K L M N P), domestic
                        (1 yes, 2 no), quantity (1 active import, 2 active export), connection (1 W,
                        2 L, 3 H, 4 E), off-peak window (0 none, 1 for 00:00 to 07:00, 2 for 00:30
-                       to 07:30), de-minimis (how many readings make a shape; 2 bytes, the high one
-                       first). Group, domestic and window are 0 in an Advanced one. The first five
-                       bytes are the key.
-     day_types         one for each date, 1 to 800 of them, each 1 to 16; a date without readings
-                       takes over the shape of the last run date of its type
+                       to 07:30), de-minimis (how many readings make a shape, 0 as 1; 2 bytes, the
+                       high one first). Group, domestic and window are 0 in an Advanced one. The
+                       first five bytes are the key. A family is all Smart categories alike in
+                       domestic, quantity and connection.
+     day_types         one for each date, 1 to 800 of them, each 1 to 16; a cell without a shape of
+                       its own takes over that of the nearest earlier run date of the same type
    Results: none. Checks: 3, 4, 5, 1. */
 uint64_t jihoweka_open(
     uint8_t *settings, size_t settings_length,
@@ -184,8 +188,9 @@ uint64_t jihoweka_receive(
     const uint8_t *body, size_t body_length,
     int64_t *fields, size_t fields_length);
 
-/* Makes a date's cells from the sets held, and renews the cells of later run dates that were taken
-   over from it. Writes cells.
+/* Makes a date's cells from the sets held; a cell with too few readings takes over that of the
+   nearest earlier run date of the same day type. Later run dates of the day type follow, wherever
+   they have no shape of their own. Writes cells.
    Results: moved, how many cells of all dates differ from before; a date not run has cells N.
    Checks: 1, 9. */
 uint64_t jihoweka_run(
@@ -200,8 +205,8 @@ uint64_t jihoweka_run(
    Results: TOT of the day, of it OFF in the off-peak window and PEAK outside it (both 0 without a
    window); TOT7, OFF7, PEAK7, the same over the run dates among this and the 6 before, and days7,
    how many those are; ANN, TOT over the run dates among this and the 364 before, scaled to 365
-   days, and days, how many those are; FRESH, how many of the day's cells have flag A or D; BLANK,
-   how many have N. Checks: 1, 9, 15, 14. */
+   days, halves of a Wh up, and days, how many those are; FRESH, how many of the day's cells have
+   flag A or D; BLANK, how many have N. Checks: 1, 9, 15, 14. */
 uint64_t jihoweka_read_totals(
     const uint8_t *settings, size_t settings_length,
     const uint64_t *cells, size_t cells_length,
@@ -209,7 +214,7 @@ uint64_t jihoweka_read_totals(
     uint64_t category,
     int64_t *fields, size_t fields_length);
 
-/* A cell of a run date: an average.
+/* A cell of a run date: an average in whole Wh, halves up.
    Results: flag ('A' over the category's readings, 'D' over those of its family, 'E' taken over
    from an earlier date, 'N' none), value, count of the readings in it, origin, the date that they
    are of (JIHOWEKA_NO_ORIGIN for 'N'). Checks: 1, 9, 15, 14. */
@@ -227,7 +232,8 @@ uint64_t jihoweka_read_cell(
                  families
      numbers     the net of each period in Wh; P entries at least
      marks       1 where a cell summed has flag N, else 0; P entries at least
-   Results: net TOT, net TOT7. Checks: 1 (of both lists too), 9, 15, 26, 14. */
+   Results: net TOT, the sum of the numbers; net TOT7, the same over the run dates among this and
+   the 6 before. Checks: 1 (of both lists too), 9, 15, 26, 14. */
 uint64_t jihoweka_read_net(
     const uint8_t *settings, size_t settings_length,
     const uint64_t *cells, size_t cells_length,
@@ -238,8 +244,9 @@ uint64_t jihoweka_read_net(
     uint8_t *marks, size_t marks_length,
     int64_t *fields, size_t fields_length);
 
-/* The run dates of a day type whose TOT lies from `least` to `most`, both included, upward. Writes
-   as many into `dates` as it holds, which may be none; its other entries keep their contents.
+/* The run dates of a day type whose TOT for the category lies from `least` to `most` Wh, both
+   included, upward. Writes as many into `dates` as it holds, which may be none; its other entries
+   keep their contents.
      day_type  1 to 16; with any other, and where least is above most, there are no such dates
    Results: how many were written, how many there are. Checks: 1, 15. */
 uint64_t jihoweka_search_band(

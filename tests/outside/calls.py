@@ -7,7 +7,7 @@ of each call. Lists have the seeds S, S + 1 and so on, until N calls are made, s
 --calls 1 replays the list with seed S alone. Some lists are on a store of random
 bytes, and in some the store is damaged on the way. Exit status 1 at the first
 difference, at an access past an array, at a call that does not end, and if a
-number that can be reached was not.
+number that can be reached was not in 20,000 calls or more.
 """
 
 import argparse
@@ -25,6 +25,7 @@ from library import (ARRAYS, BITS, CALLS, FIELDS, HEADER, PARTS, WIDTHS, Differe
 from streams import TOP, category_bytes, valid_mpan
 
 SECONDS = 60                               # after which a list of calls does not end
+ENOUGH = 20_000                            # calls that reach every number
 LONGEST = 100_000                          # entries of an array; a longer one is not lent here
 # How often each call is made once the first meters are registered.
 TURNS = {'opening': 1, 'registration': 10, 'reception': 26, 'run': 15, 'totals': 12, 'cell': 12,
@@ -362,11 +363,10 @@ def replay_lists(options, note):
         lists += 1
     note[0] = 0                            # all calls are made
     missing = [f'{name} {number}' for name, number in to_be_reached() if not reached[name, number]]
-    if missing:
-        print('calls: reachable but not reached: ' + ', '.join(missing))
-        sys.exit(1)
     print(f'calls: {calls:,} calls in {lists:,} lists, {reached["accepted"]:,} accepted, '
-          'all numbers reached')
+          + ('not reached: ' + ', '.join(missing) if missing else 'all numbers reached'))
+    if missing and calls >= ENOUGH:
+        sys.exit(1)
 
 
 def main():

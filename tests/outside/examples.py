@@ -261,6 +261,8 @@ def main():
         lines = ended.stdout.split('\n')
         differs = list(difflib.unified_diff([*first_calls(), ''], lines, 'expected', 'heard', n=1,
                                             lineterm=''))
+        if ended.returncode != 0 or ended.stderr:
+            differs.append(f'status {ended.returncode}, standard error: {ended.stderr}')
         print(f'{program}: {"differs" if differs else f"{len(lines) - 1} lines agreed"}')
         wrong += differs
     for days in ((ROOT / 'examples' / 'day.csv').read_text(), refused_days()):

@@ -1,13 +1,13 @@
 """Compares include/jihoweka.h with what it speaks of.
 
-    python3 header.py LIBRARY
+    python3 header.py LIBRARY             the static one
 
 Its functions with those that the crate `jihoweka` exports, parameter by parameter,
-and with the symbols of LIBRARY; its numbers with those of the calls; its least
-lengths, as the compiler works them out, with the definitions that the proofs cite.
+and with the symbols of LIBRARY, which needs memcpy and memset and nothing else; its
+numbers with those of the calls; its least lengths, as the compiler works them out,
+with the definitions that the proofs cite.
 """
 
-import ctypes
 import pathlib
 import re
 import subprocess
@@ -93,8 +93,9 @@ def worked_out(sizes):
 
 def main():
     assert declared() == exported(), 'functions or parameters differ'
-    library = ctypes.CDLL(str(pathlib.Path(sys.argv[1]).resolve()))
-    assert all(hasattr(library, name) for name in declared())
+    symbols = subprocess.run(['nm', sys.argv[1]], check=True, capture_output=True, text=True).stdout
+    assert set(re.findall(r' T (\w+)$', symbols, re.MULTILINE)) == set(declared())
+    assert set(re.findall(r' U (\w+)$', symbols, re.MULTILINE)) <= {'memcpy', 'memset'}
     assert {call.function for call in CALLS.values()} == set(declared())
     assert numbers() == {0}.union(*(call.checks for call in CALLS.values())), 'numbers differ'
     for call in CALLS.values():            # 13 stands twice in a reception's list

@@ -13,6 +13,7 @@ use borrow.Table.Steps.{cases}
 use borrow.Author.Tests.{eq-eqb, ne-eqb, lt-leb, le-leb, leb-true, leb-false}
 use Rattle.ledger.specs.Table.{chosenBelow}
 use Rattle.ledger.proofs.Chosen.{chosen-few}
+use Rattle.ledger.specs.Band.{inBand}
 use Rattle.ledger.specs.Store.{dayTypeOf}
 use Rattle.ledger.specs.Calls.{overwritten}
 use Rattle.store.specs.declared.column.Column.{Column}
@@ -26,9 +27,11 @@ use Rattle.band.specs.Search.{totIn, isSought, listed}
 
 module _ (settings cells : List ℕ) (column : Column) (sought : Sought) (d : ℕ) where
   pub other-type : {t : ℕ} → t ≡ dayTypeOf settings d → (t ≡ sought .«day_type» → ⊥) → false ≡ isSought settings cells column sought d
+  unfolding inBand
   other-type e other = rw (← e, ne-eqb _ _ other) (cases (runIn column cells d) (λ q. rw q) (λ q. rw q))
 
   pub not-run : runIn column cells d ≡ false → false ≡ isSought settings cells column sought d
+  unfolding inBand
   not-run e = rw e
 
   module _ {t : ℕ} {day : DayFigures} (type : t ≡ dayTypeOf settings d) (same : t ≡ sought .«day_type») (run : runIn column cells d ≡ true) (figured : DayFigured column noPeriod cells d day) where
@@ -36,9 +39,11 @@ module _ (settings cells : List ℕ) (column : Column) (sought : Sought) (d : �
     tot-is = ap (λ x. x .tot) (figured .is)
 
     pub below-least : day .tot < sought .least → false ≡ isSought settings cells column sought d
+    unfolding inBand
     below-least low = rw (run, ← type, eq-eqb _ _ same, ← tot-is, lt-leb _ _ low)
 
     pub most-decides : sought .least ≤ day .tot → leb (day .tot) (sought .most) ≡ isSought settings cells column sought d
+    unfolding inBand
     most-decides enough = rw (run, ← type, eq-eqb _ _ same, ← tot-is, le-leb _ _ enough)
 
 -- ---- a list that gets as many dates as it holds

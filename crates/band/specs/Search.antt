@@ -1,11 +1,10 @@
 -- What a band search is asked, as the ledger's call; a date that is sought; and a list that gets as many dates as it holds.
 use Prim.Native.Nat.{ℕ, _<_}
 use mathlib.Core.Path.{_≡_}
-use mathlib.Core.Bool.{Bool, true, _&&_}
+use mathlib.Core.Bool.{Bool, true}
 use mathlib.Core.List.{List}
-use lib.Dec.{leb, eqb}
 use lib.ListN.{length, take}
-use Rattle.ledger.specs.Band.{BandCall}
+use Rattle.ledger.specs.Band.{BandCall, inBand}
 use Rattle.ledger.specs.Store.{settingsReady, datesOf, dayTypeOf}
 use Rattle.ledger.specs.Calls.{overwritten}
 use Rattle.store.specs.declared.column.Column.{Column}
@@ -20,10 +19,12 @@ bandCall category dayType least most dates =
 abbrev pub totIn : Column → List ℕ → ℕ → ℕ
 totIn column cells d = dayFigures column noPeriod cells d .tot
 
+-- the ledger's test of a date; which category is asked for, and with how much room, does not matter to it
 abbrev pub isSought : List ℕ → List ℕ → Column → Sought → ℕ → Bool
 isSought settings cells column sought d =
-    runIn column cells d && eqb (dayTypeOf settings d) (sought .«day_type») && leb (sought .least) (totIn column cells d)
-    && leb (totIn column cells d) (sought .most)
+    inBand (datesOf settings) (runIn column cells) (dayTypeOf settings) (totIn column cells)
+    (record { category = column .category; dayType = sought .«day_type»; least = sought .least; most = sought .most; room = 0 })
+    d
 
 -- the first of some dates, as many as there is room for
 unfoldable pub listed : List ℕ → List ℕ → List ℕ

@@ -13,7 +13,7 @@ ghost use mathlib.Core.List.{List};
 ghost use Prim.Native.Nat.{ℕ, _≤_};
 ghost use lib.IntN.{ℤ};
 ghost use lib.ListN.{length, take};
-ghost use Rattle.ledger.specs.Ledger.{totalsAre, cellIs, refused, Answer};
+ghost use Rattle.ledger.specs.Ledger.{totalsAre, cellIs, refused};
 ghost use Rattle.ledger.specs.Calls.{overwritten};
 ghost use Rattle.entries.specs.Cell.{cellMeant};
 ghost use Rattle.store.specs.Outcome.{answerOf, runAnswer, totalsMeant, totalsAnswer, cellAnswer, netAnswer, bandAnswer};
