@@ -14,7 +14,7 @@ use Rattle.ledger.specs.Table.{chosenBelow}
 use Rattle.ledger.specs.Method.{totOn, totalsOn}
 use Rattle.ledger.specs.Band.{Band, inBand, bandDates, bandOn}
 use Rattle.ledger.specs.Checks.{Verdict, bandCheck, totalsInRange}
-use Rattle.ledger.specs.Ledger.{answer, bandIs, refused, left}
+use Rattle.ledger.specs.Ledger.{Answer, answer, bandIs, refused, left}
 use Rattle.ledger.specs.Store.{settingsReady, cellsReady, categoriesOf, datesOf, rowLength}
 use Rattle.ledger.specs.Calls.{cellsUnready, cellFor, totalsFor, bandVerdict, bandFor, overwritten}
 use Rattle.ledger.proofs.Verdicts.{refused-is, kept-is, given-is, after-is}
@@ -41,25 +41,31 @@ module _ (s cells : List ℕ) (category dayType least most : ℕ) (lent : List �
   abbrev gives : Band
   gives = bandFor s cells (bandCall category dayType least most lent)
 
+  -- what the contract asks of an answer and of the list
+  abbrev Meets : Answer → List ℕ → Type 0
+  Meets given dates = (given ≡ answer v (bandIs gives)) × (dates ≡ left v lent (overwritten (gives .dates) lent))
+
   number-is : n ≡ v .number
   unfolding bandVerdict
   number-is = is
 
   -- a number that a check gave
-  pub refuses : (n ≡ 0 → ⊥) → (refused n 0 ≡ answer v (bandIs gives)) × (lent ≡ left v lent (overwritten (gives .dates) lent))
+  pub refuses : (n ≡ 0 → ⊥) → Meets (refused n 0) lent
   refuses fails = (refused-is v n number-is _ (unfold bandVerdict in refl) fails, kept-is v n number-is _ _ fails)
 
-  accepts : (b : Band) (dates : List ℕ) → n ≡ 0 → b ≡ gives → dates ≡ overwritten (gives .dates) lent → (bandIs b ≡ answer v (bandIs gives)) × (dates ≡ left v lent (overwritten (gives .dates) lent))
+  accepts : (b : Band) (dates : List ℕ) → n ≡ 0 → b ≡ gives → dates ≡ overwritten (gives .dates) lent → Meets (bandIs b) dates
   accepts b dates passes same are = (ap bandIs same ∙ given-is v n number-is _ passes, are ∙ after-is v n number-is _ _ passes)
 
-  nothing : gives ≡ record { written = 0; found = 0; dates = [] } → n ≡ 0 →
-      (bandIs (record { written = 0; found = 0; dates = take 0 lent }) ≡ answer v (bandIs gives)) × (lent ≡ left v lent (overwritten (gives .dates) lent))
+  abbrev noDates : Answer
+  noDates = bandIs (record { written = 0; found = 0; dates = take 0 lent })
+
+  nothing : gives ≡ record { written = 0; found = 0; dates = [] } → n ≡ 0 → Meets noDates lent
   nothing e passes = accepts _ lent passes (sym e) (rw e (unfold overwritten in refl))
 
-  pub ends-exchanged : n ≡ 0 → most < least → (bandIs (record { written = 0; found = 0; dates = take 0 lent }) ≡ answer v (bandIs gives)) × (lent ≡ left v lent (overwritten (gives .dates) lent))
+  pub ends-exchanged : n ≡ 0 → most < least → Meets noDates lent
   ends-exchanged passes h = nothing (unfold bandFor bandOn bandDates in rw (lt-leb least most h, take-nil, min-zero)) passes
 
-  pub no-day-type : n ≡ 0 → dayTypeValid dayType ≡ false → (bandIs (record { written = 0; found = 0; dates = take 0 lent }) ≡ answer v (bandIs gives)) × (lent ≡ left v lent (overwritten (gives .dates) lent))
+  pub no-day-type : n ≡ 0 → dayTypeValid dayType ≡ false → Meets noDates lent
   no-day-type passes h = nothing (unfold bandFor bandOn bandDates in rw h (cases (leb least most) (λ q. rw (q, take-nil, min-zero)) (λ q. rw (q, take-nil, min-zero)))) passes
 
   abbrev sought : Sought
@@ -75,7 +81,7 @@ module _ (s cells : List ℕ) (category dayType least most : ℕ) (lent : List �
 
   pub finds : {column : Column} (written count : ℕ) (dates : List ℕ) → n ≡ 0 → column ≡ columnOf s category → least ≤ most → dayTypeValid dayType ≡ true →
       (count ≡ length (chosenBelow (datesOf s) (isSought s cells column sought))) × (dates ≡ listed (chosenBelow (datesOf s) (isSought s cells column sought)) lent) → written ≡ min (length lent) count →
-      (bandIs (record { written = written; found = count; dates = take written dates }) ≡ answer v (bandIs gives)) × (dates ≡ left v lent (overwritten (gives .dates) lent))
+      Meets (bandIs (record { written = written; found = count; dates = take written dates })) dates
   finds written count dates passes column-is order type listing shorter =
       let (counted, are) : (count ≡ length all) × (dates ≡ listed all lent) = rw column-is at listing in
       let wrote : written ≡ length (take (length lent) all) = shorter ∙ rw counted (sym (length-take (length lent) all)) in
