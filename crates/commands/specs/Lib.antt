@@ -1,2 +1,3 @@
 -- What the contracts of commands cite.
 pub mod Commands
+pub mod Program

@@ -1,29 +1,74 @@
--- Conversations: every command prints what the plain ledger says, from an accepted opening to the next.
+-- The command program prints what the plain ledger says, for every input.
 use Prim.Native.Nat.{ℕ, zero, suc, _+_, _*_, _/_, _≤_, min}
 use mathlib.Core.Path.{_≡_, refl, sym, ap, _∙_}
 use mathlib.Core.Bool.{Bool, true, false, cond}
 use mathlib.Core.List.{List, [], _∷_, _++_, append-nil}
+use mathlib.Core.Option.{Option, none, some}
 use native.Mathlib.Omega.{arith}
 use native.Mathlib.Nat.{not-suc-le-zero}
 use lib.Dec.{eqb}
-use lib.ListN.{length, take, drop}
-use lib.Seq.{take-length, drop-length, getD-drop}
+use lib.ListN.{length, take, drop, replicate, length-replicate, getD-replicate}
+use lib.Seq.{take-length, drop-length}
 use borrow.Table.Steps.{cases}
 use borrow.Author.Tests.{lt-ltb, eqb-true, eqb-false, ne-eqb}
 use Rattle.ledger.specs.Sizes.{headerLength, settingsLength}
-use Rattle.ledger.specs.Checks.{Verdict}
-use Rattle.ledger.specs.Ledger.{Ledger, start, Call, answer, accepted, left, settingsShort, metersShort, anyShort, Lengths, ledgerAnswer, ledgerAfter, Opening}
-use Rattle.ledger.specs.Calls.{openingVerdict}
+use Rattle.ledger.specs.Checks.{Verdict, orElse, firstNumber, callNumber, registrationCheck, receptionCheck, runCheck, readCheck, netCheck, bandCheck}
+use Rattle.ledger.specs.Ledger.{Ledger, start, Call, register, receive, run, readTotals, readCell, readNet, searchBand, refused, answer, accepted, left, settingsShort, metersShort, anyShort, Lengths, ledgerAnswer, ledgerAfter, Opening}
+use Rattle.ledger.specs.Store.{word, metersOf, settingsReady}
+use Rattle.ledger.specs.Ready.{ready, header-there}
+use Rattle.ledger.specs.Calls.{metersUnready, runUnready, cellsUnready, openingVerdict, registrationVerdict, receptionVerdict, runVerdict, totalsVerdict, cellVerdict, netVerdict, bandVerdict}
 use Rattle.ledger.specs.Engine.{Parts, callAnswer, leaves, openedParts, afterOpening, cut, restored, partsAfter, cutLengths, lengthsOf, AreBytes, BodyOfBytes}
-use Rattle.ledger.proofs.Verdicts.{left-none, left-some, accepted-none}
+use Rattle.ledger.proofs.Verdicts.{left-some}
 use Rattle.ledger.proofs.Open.{opening-accepted}
-use Rattle.ledger.proofs.Agreement.{Agrees, left-agrees, item-step, opened-agrees, simulation}
+use Rattle.ledger.proofs.Agreement.{Agrees, item-step, opened-agrees}
 use Rattle.input.specs.Operands.{receptionOperands, bodyOf}
 use Rattle.output.specs.Lines.{answerLine}
 use Rattle.commands.specs.Commands.{State, code, openingOf, sufficesFor, openingVerdictOn, openingAnswer, openingLeaves, callOf, lineFor, stateAfter}
+use Rattle.commands.specs.Program.{Setup, storeProgram, firstState}
 use Rattle.commands.specs.declared.capacity.Capacity.{Capacity}
-use Rattle.conversation.specs.Conversation.{Plain, plainOpening, plainLine, plainAfter, Conversation}
+use Rattle.conversation.specs.Conversation.{Plain, plainOpening, plainAnswer, ledgerLeft, plainLine, plainAfter, plainProgram, firstPlain, SameBytes, DialogueIsPlain}
+use Rattle.console.proofs.Whole.{dialogue-is-program}
 use Rattle.commands.proofs.Laws.{collects-category, collects-day-type, uses-up, asks}
+use Rattle.conversation.proofs.Simulation.{bytes-take, bytes-drop, Simulates, same-output}
+
+-- ---- before the first accepted opening
+
+module _ (p : Parts) (unready : settingsReady (p .settings) ≡ false) where
+  -- a call on settings that are not ready answers 1
+  unready-answer : (c : Call) → callAnswer p c ≡ refused 1 0
+  unfolding callAnswer answer metersUnready runUnready cellsUnready registrationVerdict receptionVerdict runVerdict totalsVerdict cellVerdict netVerdict bandVerdict registrationCheck receptionCheck runCheck readCheck netCheck bandCheck callNumber firstNumber orElse
+  unready-answer (register a) = rw unready
+  unready-answer (receive a) = rw unready
+  unready-answer (run d) = rw unready
+  unready-answer (readTotals d c) = rw unready
+  unready-answer (readCell d c j) = rw unready
+  unready-answer (readNet a) = rw unready
+  unready-answer (searchBand a) = rw unready
+
+  -- and changes nothing
+  unready-leaves : (c : Call) → leaves p c ≡ p
+  unfolding leaves left metersUnready runUnready registrationVerdict receptionVerdict runVerdict registrationCheck receptionCheck runCheck callNumber firstNumber orElse
+  unready-leaves (register a) = rw unready
+  unready-leaves (receive a) = rw unready
+  unready-leaves (run d) = rw unready
+  unready-leaves (readTotals d c) = refl
+  unready-leaves (readCell d c j) = refl
+  unready-leaves (readNet a) = refl
+  unready-leaves (searchBand a) = refl
+
+-- ---- what the plain program keeps, and the parts
+
+record Unopened (n : Lengths) (p : Parts) : Type 0 where
+  unready : settingsReady (p .settings) ≡ false
+  lengths : lengthsOf p ≡ n
+
+abbrev Holds : Lengths → Parts → Option Ledger → Type 0
+Holds n p none = Unopened n p
+Holds n p (some l) = Agrees n p l
+
+holds-lengths : {n : Lengths} (p : Parts) (l : Option Ledger) → Holds n p l → lengthsOf p ≡ n
+holds-lengths p none h = h .lengths
+holds-lengths p (some l) h = h .lengths
 
 -- ---- parts lent whole
 
@@ -74,6 +119,12 @@ whole-step n p l c a b =
     let back : restored n p (leaves p c) ≡ leaves p c = rw (← a .lengths) (restored-whole p (leaves p c)) in
     (rw (uncut, lengths-whole n) at (s .0), rw (uncut, back, lengths-whole n) at (s .1))
 
+holds-step : (n : Lengths) (p : Parts) (l : Option Ledger) (c : Call) → Holds n p l → BodyOfBytes c →
+    (callAnswer p c ≡ plainAnswer n l c) × Holds n (leaves p c) (ledgerLeft n l c)
+unfolding plainAnswer ledgerLeft
+holds-step n p none c h b = (unready-answer p (h .unready) c, rw (unready-leaves p (h .unready) c) h)
+holds-step n p (some l) c h b = whole-step n p l c h b
+
 -- ---- what a reception is given is made of bytes
 
 bytes-append : (xs ys : List ℕ) → AreBytes xs → AreBytes ys → AreBytes (xs ++ ys)
@@ -81,18 +132,12 @@ bytes-append [] ys h k i = k i
 bytes-append (x ∷ xs) ys h k zero = h 0
 bytes-append (x ∷ xs) ys h k (suc i) = bytes-append xs ys (λ j. h (suc j)) k i
 
-bytes-take : (n : ℕ) (xs : List ℕ) → AreBytes xs → AreBytes (take n xs)
-bytes-take zero xs h i = omega arith
-bytes-take (suc n) [] h i = omega arith
-bytes-take (suc n) (x ∷ xs) h zero = h 0
-bytes-take (suc n) (x ∷ xs) h (suc i) = bytes-take n xs (λ j. h (suc j)) i
-
 body-bytes : (n : ℕ) (b : List ℕ) → AreBytes b → AreBytes (bodyOf n b)
 unfolding bodyOf
 body-bytes zero b h = λ i. omega arith
 body-bytes (suc n) b h =
     bytes-append (bodyOf n b) (take 7 (drop (17 + 8 * n) b)) (body-bytes n b h)
-    (bytes-take 7 (drop (17 + 8 * n) b) (λ i. rw (getD-drop (17 + 8 * n) b i 0) (h (17 + 8 * n + i))))
+    (bytes-take 7 (drop (17 + 8 * n) b) (bytes-drop (17 + 8 * n) b h))
 
 call-bytes : (b : List ℕ) → AreBytes b → BodyOfBytes (callOf b)
 unfolding callOf
@@ -120,7 +165,7 @@ none-short a = rw (lt-ltb 0 (headerLength + 8 * (length (a .categoryBytes) / 8) 
 
 none-refused : (a : Opening) → openingVerdict [] [] [] [] a .number ≡ 0 → ⊥
 unfolding settingsLength
-none-refused a e = let long = opening-accepted [] [] [] [] a e .settings-long in let none : 1 ≤ 0 = omega (arith, long) in not-suc-le-zero none
+none-refused a e = let long = opening-accepted [] [] [] [] a e .settings-long in let no : 1 ≤ 0 = omega (arith, long) in not-suc-le-zero no
 
 -- the verdict on the parts lent is the plain program's
 same-verdict : (capacity : Capacity) (p : Parts) (a : Opening) → openingVerdictOn (sufficesFor capacity a) p a ≡ plainOpening capacity (lengthsOf p) a
@@ -138,21 +183,26 @@ accepted-agrees : (suffices : Bool) (p : Parts) (a : Opening) → openingVerdict
 accepted-agrees true p a passes = opened-agrees p a passes
 accepted-agrees false p a passes = absurd (none-refused a passes)
 
--- ---- every list of commands
+-- what holds before, and after an accepted one, holds of what is left
+left-related : {A B : Type 0} (R : A → B → Type 0) (v : Verdict) {a a′ : A} {b b′ : B} → R a b → (v .number ≡ 0 → R a′ b′) → R (left v a a′) (left v b b′)
+unfolding left
+left-related R v kept taken = cases (eqb (v .number) 0) (λ t. rw t (taken (eqb-true _ _ t))) (λ t. rw t kept)
 
-abbrev plainOf : State → Ledger → Plain
+-- ---- every command
+
+abbrev plainOf : State → Option Ledger → Plain
 plainOf s l = record { categoryBytes = s .categoryBytes; dayTypes = s .dayTypes; ledger = l }
 
 record Alike (n : Lengths) (s : State) (x : Plain) : Type 0 where
   collected : x ≡ plainOf s (x .ledger)
-  stored : Agrees n (s .parts) (x .ledger)
+  stored : Holds n (s .parts) (x .ledger)
 
-module _ (capacity : Capacity) (n : Lengths) (s : State) (l : Ledger) (stored : Agrees n (s .parts) l) (b : List ℕ) where
+module _ (capacity : Capacity) (n : Lengths) (s : State) (l : Option Ledger) (stored : Holds n (s .parts) l) (b : List ℕ) where
   -- the command prints alike and leaves what is alike
   abbrev Step : Type 0
   Step = (lineFor capacity s b ≡ plainLine capacity n (plainOf s l) b) × Alike n (stateAfter capacity s b) (plainAfter capacity n (plainOf s l) b)
 
-  stepped : (s′ : State) (l′ : Ledger) → s′ ≡ stateAfter capacity s b → plainAfter capacity n (plainOf s l) b ≡ plainOf s′ l′ → Agrees n (s′ .parts) l′ → lineFor capacity s b ≡ plainLine capacity n (plainOf s l) b → Step
+  stepped : (s′ : State) (l′ : Option Ledger) → s′ ≡ stateAfter capacity s b → plainAfter capacity n (plainOf s l) b ≡ plainOf s′ l′ → Holds n (s′ .parts) l′ → lineFor capacity s b ≡ plainLine capacity n (plainOf s l) b → Step
   stepped s′ l′ p q a line = (line, rw (← p, q) (record { collected = refl; stored = a }))
 
   category-step : code b ≡ 17 → Step
@@ -166,25 +216,31 @@ module _ (capacity : Capacity) (n : Lengths) (s : State) (l : Ledger) (stored : 
   abbrev asked : Opening
   asked = openingOf b (s .categoryBytes) (s .dayTypes)
 
-  verdict-is : openingVerdictOn (sufficesFor capacity asked) (s .parts) asked ≡ plainOpening capacity n asked
-  verdict-is = rw (← stored .lengths) (same-verdict capacity (s .parts) asked)
+  lengths-are : lengthsOf (s .parts) ≡ n
+  lengths-are = holds-lengths (s .parts) l stored
 
-  opening-leaves : Agrees n (openingLeaves capacity (s .parts) asked) (left (plainOpening capacity n asked) l (start asked))
+  verdict-is : openingVerdictOn (sufficesFor capacity asked) (s .parts) asked ≡ plainOpening capacity n asked
+  verdict-is = rw (← lengths-are) (same-verdict capacity (s .parts) asked)
+
+  abbrev opened : Option Ledger
+  opened = left (plainOpening capacity n asked) l (some (start asked))
+
+  opening-leaves : Holds n (openingLeaves capacity (s .parts) asked) opened
   unfolding openingLeaves
   opening-leaves =
       let suffices = sufficesFor capacity asked in
       rw (left-by-verdict suffices (s .parts) asked, ← verdict-is)
-      (left-agrees _ stored (λ passes. rw (← stored .lengths) (accepted-agrees suffices (s .parts) asked passes)))
+      (left-related (Holds n) _ stored (λ passes. rw (← lengths-are) (accepted-agrees suffices (s .parts) asked passes)))
 
   opening-step : code b ≡ 16 → Step
   unfolding lineFor plainLine plainAfter openingAnswer
-  opening-step e = stepped _ _ (uses-up capacity s b _ e refl) (rw e) opening-leaves (rw e (ap (λ (v : Verdict). answerLine 16 (answer v accepted)) verdict-is))
+  opening-step e = stepped _ opened (uses-up capacity s b _ e refl) (rw e) opening-leaves (rw e (ap (λ (v : Verdict). answerLine 16 (answer v accepted)) verdict-is))
 
   call-step : (code b ≡ 16 → ⊥) → (code b ≡ 17 → ⊥) → (code b ≡ 18 → ⊥) → AreBytes b → Step
   unfolding lineFor plainLine plainAfter
   call-step x y z h =
-      let done = whole-step n (s .parts) l (callOf b) stored (call-bytes b h) in
-      stepped _ (ledgerAfter l n (callOf b)) (asks capacity s b _ x y z refl) (simp (ne-eqb _ _ x, ne-eqb _ _ y, ne-eqb _ _ z)) (done .1)
+      let done = holds-step n (s .parts) l (callOf b) stored (call-bytes b h) in
+      stepped _ (ledgerLeft n l (callOf b)) (asks capacity s b _ x y z refl) (simp (ne-eqb _ _ x, ne-eqb _ _ y, ne-eqb _ _ z)) (done .1)
       (simp (ne-eqb _ _ x, ne-eqb _ _ y, ne-eqb _ _ z) (ap (answerLine (code b)) (done .0)))
 
   step : AreBytes b → Step
@@ -204,15 +260,28 @@ command-step capacity n s x b a h =
     let done = step capacity n s (x .ledger) (a .stored) b h in
     rw (← a .collected) at done
 
+-- ---- every input
+
+-- settings of zeros are not ready: they keep no meters
+zeros-unready : (n : ℕ) → settingsReady (replicate n 0) ≡ false
+unfolding metersOf word
+zeros-unready n =
+    cases (settingsReady (replicate n 0))
+    (λ t.
+    let long : 8 ≤ n = rw length-replicate at (header-there (replicate n 0) t) in
+    absurd (omega (arith, ready (replicate n 0) t .meters .0, getD-replicate {A = ℕ} n 2 0 0 (omega arith), getD-replicate {A = ℕ} n 3 0 0 (omega arith))))
+    (λ f. f)
+
+first-alike : (n : Lengths) → Alike n (firstState n) firstPlain
+first-alike n = record { collected = refl; stored = record { unready = zeros-unready (n .settings); lengths = simp length-replicate } }
+
+simulates : (g : Setup) (n : Lengths) → Simulates (storeProgram g) (plainProgram g n) (Alike n)
+simulates g n = record { extents = λ s x bytes a. rw (a .collected); steps = command-step (g .capacity) n }
+
 -- Demand 3, of the program
-pub conversation : Conversation
-unfolding openingAnswer openingLeaves
-conversation capacity s first commands e ok every =
-    let a = openingOf first (s .categoryBytes) (s .dayTypes) in
-    let n = lengthsOf (s .parts) in
-    let v = openingVerdictOn (sufficesFor capacity a) (s .parts) a in
-    let passes = accepted-none v (sym ok) in
-    let left = left-by-verdict (sufficesFor capacity a) (s .parts) a ∙ left-none v (s .parts) (openedParts (s .parts) a) passes in
-    rw (← uses-up capacity s first _ e (sym left))
-    (simulation (lineFor capacity) (stateAfter capacity) (plainLine capacity n) (plainAfter capacity n) (Alike n) AreBytes (command-step capacity n) commands every _ _
-    (record { collected = refl; stored = accepted-agrees (sufficesFor capacity a) (s .parts) a passes }))
+pub same-bytes : SameBytes
+same-bytes g n input bytes =
+    same-output (storeProgram g) (plainProgram g n) (Alike n) (simulates g n) (firstState n) firstPlain input (first-alike n) bytes
+
+pub dialogue-is-plain : DialogueIsPlain
+dialogue-is-plain g n ds d t end bytes = sym (same-bytes g n _ bytes) ∙ dialogue-is-program g (firstState n .parts) ds d t end

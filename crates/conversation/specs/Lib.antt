@@ -1,2 +1,3 @@
--- The command program over the plain ledger.
+-- The command program over the plain ledger, and the scope paper's dialogues.
 pub mod Conversation
+pub mod Example

@@ -135,7 +135,7 @@ fn number_of(flag: Flag) -> u64
     }
 }
 
-// Its letter in ASCII.
+// A flag's letter in ASCII.
 pub fn letter(flag: Flag) -> u8
     ensures { λ r. ⌜ r ≡ letterOf (flagMeant flag) ⌝ }
 {

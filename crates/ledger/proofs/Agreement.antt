@@ -44,7 +44,7 @@ unfolding answer
 same-answer v x y h = cases (eqb (v .number) 0) (λ q. rw (q, h (eqb-true (v .number) 0 q))) (λ q. rw q)
 
 -- a refused call changes nothing
-pub left-agrees : {whole : Lengths} {p p′ : Parts} {l l′ : Ledger} (v : Verdict) → Agrees whole p l → (v .number ≡ 0 → Agrees whole p′ l′) → Agrees whole (left v p p′) (left v l l′)
+left-agrees : {whole : Lengths} {p p′ : Parts} {l l′ : Ledger} (v : Verdict) → Agrees whole p l → (v .number ≡ 0 → Agrees whole p′ l′) → Agrees whole (left v p p′) (left v l l′)
 unfolding left
 left-agrees v refused taken = cases (eqb (v .number) 0) (λ t. rw t (taken (eqb-true _ _ t))) (λ t. rw t refused)
 
@@ -345,7 +345,7 @@ module _ (whole : Lengths) (p : Parts) (l : Ledger) (agrees : Agrees whole p l) 
 -- ---- every list of calls
 
 -- a relation that every call keeps while the answers are alike makes the answers to every list alike
-pub simulation : {S L I A : Type 0} (f : S → I → A) (g : S → I → S) (h : L → I → A) (k : L → I → L) (R : S → L → Type 0) (ok : I → Type 0) →
+simulation : {S L I A : Type 0} (f : S → I → A) (g : S → I → S) (h : L → I → A) (k : L → I → L) (R : S → L → Type 0) (ok : I → Type 0) →
     ((s : S) (l : L) (i : I) → R s l → ok i → (f s i ≡ h l i) × R (g s i) (k l i)) →
     (items : List I) → Every ok items → (s : S) (l : L) → R s l → answersFrom f g s items ≡ answersFrom h k l items
 unfolding answersFrom

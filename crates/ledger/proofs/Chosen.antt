@@ -9,7 +9,7 @@ use borrow.Table.Steps.{cases}
 use Rattle.ledger.specs.Table.{chosenBelow}
 use Rattle.ledger.specs.Engine.{Every}
 
-pub every-append : (P : ℕ → Type 0) (cs ds : List ℕ) → Every P cs → Every P ds → Every P (cs ++ ds)
+pub every-append : {I : Type 0} (P : I → Type 0) (cs ds : List I) → Every P cs → Every P ds → Every P (cs ++ ds)
 every-append P [] ds a b = b
 every-append P (c ∷ cs) ds a b = (a .0, every-append P cs ds (a .1) b)
 

@@ -21,5 +21,10 @@ pub mod Answers
 pub mod Parts
 pub mod Agreement
 pub mod Demands
+pub mod FirstFailed
+pub mod CallDemands
 pub mod NetDemands
 pub mod BandDemands
+pub mod FigureDemands
+pub mod SizeDemands
+pub mod EngineDemands

@@ -1,36 +1,34 @@
 -- What is promised of net reads.
 use Prim.Native.Nat.{ℕ, zero, suc, _≤_, _<_}
 use mathlib.Core.Path.{_≡_, refl, sym, ap, ap₂, _∙_}
-use mathlib.Core.Logic.{_≢_}
+use mathlib.Core.Logic.{_≢_, _↔_}
 use mathlib.Core.Bool.{Bool, true, false, not, _||_, cond, and-eq-true-iff, or-true, true≢false}
 use mathlib.Core.List.{List, [], _∷_, _++_, map, map-append}
 use native.Mathlib.Omega.{arith}
-use native.Mathlib.Nat.{zero-add, add-zero}
+use native.Mathlib.Nat.{add-zero}
 use lib.Dec.{eqb, ltb}
-use lib.ListN.{length}
+use lib.ListN.{length, length-append}
 use lib.IntN.{ℤ, pos, negℤ, _+ℤ_, _-ℤ_, +ℤ-assoc, +ℤ-idl, +ℤ-idr}
 use borrow.Table.Steps.{cases}
-use borrow.Author.Tests.{eq-eqb, eqb-true, eqb-false, ltb-true, ltb-false}
+use borrow.Author.Tests.{eq-eqb, ne-eqb, eqb-true, eqb-false, ltb-false, le-ltb}
 use Rattle.metering.specs.Sum.{sumBelow}
-use Rattle.metering.specs.Range.{categoryValid}
-use Rattle.ledger.specs.Method.{Category, categoryAt, isSmart, sameFamily, Flag, A, D, E, N, Cell, Fresh, absent, own, pooled, blank, carried, cellFrom, Day, notRun, ran, cellOf, cellOn, totOn, totalsOn}
+use Rattle.ledger.specs.Method.{Category, isSmart, Flag, A, D, E, N, Cell, Fresh, absent, own, pooled, blank, carried, cellFrom, Day, notRun, ran, cellOf, cellOn, totOn, totalsOn}
 use Rattle.ledger.specs.Table.{tabulate, chosenBelow}
-use Rattle.ledger.specs.Net.{activeImport, activeExport, onSide, sideOf, sumOver, anyOf, signedSum, isN, netPeriod, markOf, netTot, netOn}
-use Rattle.ledger.specs.Checks.{anyBelow, firstFailed, verdict, recordAt, sameKey, categoryNumber, dayTypeNumber, sizesValid, openingCheck, orElse, mayNet}
-use Rattle.ledger.specs.Ledger.{Opening, categories, dates, periods, category, Ledger, cellBy, cellAt, isRun, dayOf, totalsAt, sideAt, netAt}
+use Rattle.ledger.specs.Net.{activeImport, activeExport, withQuantity, onSide, sideOf, sumOver, anyOf, signedSum, isN, netPeriod, markOf, netTot, netOn}
+use Rattle.ledger.specs.Checks.{openingCheck, resultsShort, mayNet, netCheck, totalsInRange}
+use Rattle.ledger.specs.Ledger.{Opening, categories, dates, periods, category, Ledger, cellsShort, cellBy, cellAt, isRun, dayOf, totalsAt, ledgerNetCheck, sideAt, netAt, ledgerAnswer}
 use Rattle.ledger.specs.Engine.{Every}
-use Rattle.ledger.specs.Demands.{OnSide, SideExact, OwnGroupPair, signedTotal, NetTotIsSum, NetOfTotals, OwnGroupNetOfTotals, MarkExact, NothingNetsToZero, SidesExchanged}
-use Rattle.ledger.proofs.Choices.{verdict-passed, neither}
-use Rattle.ledger.proofs.Receive.{first-passed}
-use Rattle.ledger.proofs.Verdicts.{passed-else}
-use Rattle.ledger.proofs.Demands.{any-false}
+use Rattle.ledger.specs.Demands.{SameKey, CellsLong, SameFamily, OnSide, SideExact, Paired, NetExact, OwnGroupPair, signedTotal, NetTotIsSum, NetOfTotals, OwnGroupNetOfTotals, MarkExact, NothingNetsToZero, SidesExchanged}
+use Rattle.ledger.proofs.Choices.{neither}
+use Rattle.ledger.proofs.FirstFailed.{finds-none, finds-row, goes-by}
+use Rattle.ledger.proofs.CallDemands.{not-iff, date-iff, below-iff, cells-iff, ran-iff, keys-differ, family-iff}
 use Rattle.ledger.proofs.Lists.{tabulate-at, getD-tabulate, tabulate-ext}
 use Rattle.ledger.proofs.Chosen.{chosen-pass, chosen-none}
 use Rattle.ledger.proofs.Nets.{sumOver-append, sumOver-one, anyOf-append, tot-minus, tot7-minus, period-swapped, tot-swapped, tot7-swapped, mark-swapped}
 
 -- ---- sides
 
-sum-chosen : (n : ℕ) (test : ℕ → Bool) (f : ℕ → ℕ) → sumOver (chosenBelow n test) f ≡ sumBelow n (λ b. cond (test b) (f b) 0)
+pub sum-chosen : (n : ℕ) (test : ℕ → Bool) (f : ℕ → ℕ) → sumOver (chosenBelow n test) f ≡ sumBelow n (λ b. cond (test b) (f b) 0)
 unfolding chosenBelow sumBelow
 sum-chosen zero test f = (unfold sumOver in refl)
 sum-chosen (suc n) test f =
@@ -40,31 +38,24 @@ sum-chosen (suc n) test f =
 -- both halves of a test
 module _ (allGroups : Bool) (quantity : ℕ) (a b : Category) where
   to-side : onSide allGroups quantity a b ≡ true → OnSide allGroups quantity a b
-  unfolding onSide sameFamily isSmart
+  unfolding onSide
   to-side e =
       let p = and-eq-true-iff _ (allGroups || eqb (a .group) (b .group)) .0 e in
-      let q = and-eq-true-iff _ (eqb (a .connection) (b .connection)) .0 (p .0) in
-      let r = and-eq-true-iff _ (eqb quantity (b .quantity)) .0 (q .0) in
-      let s = and-eq-true-iff _ (eqb (a .domestic) (b .domestic)) .0 (r .0) in
-      let t = and-eq-true-iff (eqb (a .segment) 1) (eqb (b .segment) 1) .0 (s .0) in
+      let family = family-iff (withQuantity quantity a) b .0 (p .0) in
       record {
-        smart = (eqb-true _ _ (t .0), eqb-true _ _ (t .1));
-        same-quantity = sym (eqb-true _ _ (r .1));
-        same-domestic = sym (eqb-true _ _ (s .1));
-        same-connection = sym (eqb-true _ _ (q .1));
+        smart = family .smart;
+        same-quantity = sym (family .same-quantity);
+        same-domestic = sym (family .same-domestic);
+        same-connection = sym (family .same-connection);
         same-group = λ own-group. sym (eqb-true _ _ (rw own-group at (p .1)));
       }
 
   from-side : OnSide allGroups quantity a b → onSide allGroups quantity a b ≡ true
-  unfolding onSide sameFamily isSmart
+  unfolding onSide
   from-side s =
-      rw (
-        eq-eqb _ _ (s .smart .0),
-        eq-eqb _ _ (s .smart .1),
-        eq-eqb (a .domestic) (b .domestic) (sym (s .same-domestic)),
-        eq-eqb quantity (b .quantity) (sym (s .same-quantity)),
-        eq-eqb (a .connection) (b .connection) (sym (s .same-connection)),
-      )
+      let family : SameFamily (withQuantity quantity a) b =
+      record { smart = s .smart; same-domestic = sym (s .same-domestic); same-quantity = sym (s .same-quantity); same-connection = sym (s .same-connection) } in
+      rw (family-iff (withQuantity quantity a) b .1 family)
       (cases allGroups (λ q. rw q) (λ q. rw (q, eq-eqb (a .group) (b .group) (sym (s .same-group q)))))
 
 pub side-exact : SideExact
@@ -258,50 +249,20 @@ first-of : (P : ℕ → Type 0) (cs : List ℕ) → length cs ≢ 0 → Every P 
 first-of P [] some all = absurd (some refl)
 first-of P (c ∷ cs) some all = (c, all .0)
 
--- two records with one key are not both accepted
 module _ (o : Opening) (short : Bool) (ok : openingCheck o short .number ≡ 0) where
-  no-key-twice : (i k : ℕ) → i < categories o → k < i → sameKey (o .categoryBytes) k i ≡ false
-  unfolding openingCheck categoryNumber
-  no-key-twice i k h l =
-      let later = orElse (firstFailed (dayTypeNumber (o .dayTypes)) (dates o) 0) (verdict (cond short 1 0)) in
-      let first = firstFailed (categoryNumber (o .categoryBytes)) (categories o) 0 in
-      let sizes = verdict-passed (not (sizesValid o)) 2 (orElse first later) ok in
-      let records = passed-else first later (sizes .1) .0 in
-      let bad = not (categoryValid (recordAt (o .categoryBytes) i)) in
-      let twice = anyBelow i (λ x. sameKey (o .categoryBytes) x i) in
-      let here = first-passed (categoryNumber (o .categoryBytes)) (categories o) 0 records i h in
-      any-false i (λ x. sameKey (o .categoryBytes) x i) (neither bad twice (cond-four (bad || twice) (rw (zero-add i) at here)) .1) k l
-    where
-      cond-four : (b : Bool) → _≡_ {A = ℕ} (cond b 4 0) 0 → b ≡ false
-      cond-four true e = absurd (omega arith)
-      cond-four false e = refl
-
-  -- so the first five fields tell categories apart
-  one-below : (i k : ℕ) → i < categories o → k < i →
-      category o k .segment ≡ category o i .segment → category o k .group ≡ category o i .group → category o k .domestic ≡ category o i .domestic →
-      category o k .quantity ≡ category o i .quantity → category o k .connection ≡ category o i .connection → ⊥
-  unfolding categoryAt sameKey
-  one-below i k h l a b c d e =
-      true≢false (sym (rw (eq-eqb _ _ a, eq-eqb _ _ b, eq-eqb _ _ c, eq-eqb _ _ d, eq-eqb _ _ e)) ∙ no-key-twice i k h l)
-
-  one-of-a-key : (x y : ℕ) → x < categories o → y < categories o →
-      category o x .segment ≡ category o y .segment → category o x .group ≡ category o y .group → category o x .domestic ≡ category o y .domestic →
-      category o x .quantity ≡ category o y .quantity → category o x .connection ≡ category o y .connection → x ≡ y
-  one-of-a-key x y hx hy a b c d e =
-      cases (ltb x y)
-      (λ q. absurd (one-below y x hy (ltb-true x y q) a b c d e))
-      (λ q.
-      cases (ltb y x)
-      (λ r. absurd (one-below x y hx (ltb-true y x r) (sym a) (sym b) (sym c) (sym d) (sym e)))
-      (λ r. let m = ltb-false x y q in let n = ltb-false y x r in omega arith))
-
   -- two on one side of an own-group net are one
   one-on-side : (quantity c x y : ℕ) → x < categories o → y < categories o →
       OnSide false quantity (category o c) (category o x) → OnSide false quantity (category o c) (category o y) → x ≡ y
   one-on-side quantity c x y hx hy a b =
-      one-of-a-key x y hx hy (a .smart .1 ∙ sym (b .smart .1)) (a .same-group refl ∙ sym (b .same-group refl)) (a .same-domestic ∙ sym (b .same-domestic))
-      (a .same-quantity ∙ sym (b .same-quantity))
-      (a .same-connection ∙ sym (b .same-connection))
+      let same : SameKey (category o x) (category o y) =
+      record {
+        segment = a .smart .1 ∙ sym (b .smart .1);
+        group = a .same-group refl ∙ sym (b .same-group refl);
+        domestic = a .same-domestic ∙ sym (b .same-domestic);
+        quantity = a .same-quantity ∙ sym (b .same-quantity);
+        connection = a .same-connection ∙ sym (b .same-connection);
+      } in
+      cases (eqb x y) (λ q. eqb-true x y q) (λ q. absurd (keys-differ o short ok x y hx hy (eqb-false x y q) same))
 
   side-of-one : (quantity c p : ℕ) → p < categories o → OnSide false quantity (category o c) (category o p) → sideOf (category o) (categories o) false quantity c ≡ p ∷ []
   unfolding sideOf
@@ -331,4 +292,52 @@ own-group-net-of-totals l short a ok form h may =
       pair .2,
       net .0 ∙ ap₂ (λ x y. pos x -ℤ pos y) (sumOver-one (a .category) _) (sumOver-one (pair .0) _),
       net .1 ∙ ap₂ (λ x y. pos x -ℤ pos y) (sumOver-one (a .category) _) (sumOver-one (pair .0) _),
+    )
+
+-- ---- which check fails first
+
+chosen-some : (n : ℕ) (test : ℕ → Bool) (p : ℕ) → p < n → test p ≡ true → 0 < length (chosenBelow n test)
+unfolding chosenBelow
+chosen-some zero test p h e = absurd (omega arith)
+chosen-some (suc n) test p h e =
+    rw (length-append (chosenBelow n test))
+    (cases (test n)
+    (λ q. rw q (omega arith))
+    (λ q.
+    let other : p ≢ n = λ is. true≢false (sym e ∙ rw is q) in
+    let before = chosen-some n test p (omega arith) e in
+    omega arith))
+
+-- 26
+net-iff : (o : Opening) (allGroups : Bool) (c : ℕ) → (mayNet (category o) (categories o) allGroups c ≡ true) ↔ Paired o allGroups c
+unfolding mayNet sideOf isSmart
+net-iff o allGroups c = (
+  λ e. let facts = may-net-some (category o) (categories o) allGroups c e in
+      let found = first-of _ (sideOf (category o) (categories o) allGroups activeExport c) (facts .2) (chosen-pass (categories o) _) in
+      record {
+        smart = eqb-true _ _ (facts .0);
+        imports = facts .1;
+        partner = (found .0, found .1 .0, to-side allGroups activeExport (category o c) (category o (found .0)) (found .1 .1));
+      },
+  λ h. let p = h .partner in
+      let one = chosen-some (categories o) (λ b. onSide allGroups activeExport (category o c) (category o b)) (p .0) (p .1) (from-side allGroups activeExport (category o c) (category o (p .0)) (p .2)) in
+      rw (eq-eqb _ _ (h .smart), eq-eqb _ _ (h .imports), ne-eqb (length (sideOf (category o) (categories o) allGroups activeExport c)) 0 (λ z. omega arith)),
+)
+
+pub net-exact : NetExact
+unfolding ledgerAnswer ledgerNetCheck netCheck totalsInRange resultsShort
+net-exact l n a =
+    goes-by (ledgerNetCheck l n a) _ refl
+    (finds-row refl long-iff
+    (finds-row refl (date-iff (dates (l .opening)) (a .date))
+    (finds-row refl (not-iff _ (below-iff (categories (l .opening)) (a .category)))
+    (finds-row refl (not-iff _ (net-iff (l .opening) (a .allGroups) (a .category)))
+    (finds-row refl (not-iff _ (ran-iff l (a .date)))
+    finds-none)))))
+  where
+    long-iff : ((cellsShort (l .opening) n || (ltb (a .numbers) (periods (l .opening)) || ltb (a .marks) (periods (l .opening)))) ≡ false)
+        ↔ (CellsLong (l .opening) n × (periods (l .opening) ≤ a .numbers) × (periods (l .opening) ≤ a .marks))
+    long-iff = (
+      λ e. let p = neither _ _ e in let q = neither _ _ (p .1) in (cells-iff (l .opening) n .0 (p .0), ltb-false _ _ (q .0), ltb-false _ _ (q .1)),
+      λ h. rw (cells-iff (l .opening) n .1 (h .0), le-ltb _ _ (h .1), le-ltb _ _ (h .2)),
     )

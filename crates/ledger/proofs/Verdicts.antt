@@ -26,11 +26,11 @@ failed-at f n i h e = let m : n - i ≡ suc (n - (i + 1)) = omega arith in rw (m
 
 -- what is answered and left
 
-answer-none : (v : Verdict) (given : Answer) → v .number ≡ 0 → answer v given ≡ given
+pub answer-none : (v : Verdict) (given : Answer) → v .number ≡ 0 → answer v given ≡ given
 unfolding answer
 answer-none v given e = rw e
 
-answer-some : (v : Verdict) (given : Answer) → (v .number ≡ 0 → ⊥) → answer v given ≡ refused (v .number) (v .place)
+pub answer-some : (v : Verdict) (given : Answer) → (v .number ≡ 0 → ⊥) → answer v given ≡ refused (v .number) (v .place)
 unfolding answer
 answer-some v given e = rw (ne-eqb _ _ e)
 

@@ -1,22 +1,25 @@
--- What is promised, in the scope paper's words. The proofs are in proofs/Demands.antt and proofs/Agreement.antt.
-use Prim.Native.Nat.{ℕ, suc, _*_, _/_, _%_, _≤_, _<_}
+-- What is promised, in the scope paper's words. The proofs are in proofs/Agreement.antt, and in proofs/Demands.antt and the files there whose names end in Demands.
+use Prim.Native.Nat.{ℕ, zero, suc, _+_, _*_, _/_, _%_, _≤_, _<_}
 use mathlib.Core.Path.{_≡_}
 use mathlib.Core.Logic.{_≢_, _↔_, _⊎_}
-use mathlib.Core.Bool.{Bool, true, false, cond}
+use mathlib.Core.Bool.{Bool, true, false, _&&_, cond}
 use mathlib.Core.List.{List, [], _∷_, _++_, map}
-use mathlib.Core.Option.{some}
-use lib.Dec.{eqb}
+use mathlib.Core.Option.{Option, none, some}
+use lib.Dec.{eqb, ltb}
 use lib.ListN.{length, getD, take}
 use lib.IntN.{ℤ, pos, negℤ, _+ℤ_, _-ℤ_}
 use Rattle.metering.specs.Mpan.{mpanValid}
-use Rattle.metering.specs.Calendar.{durationKnown}
+use Rattle.metering.specs.Calendar.{durationKnown, periodsPerDay}
 use Rattle.metering.specs.Sum.{sumBelow}
-use Rattle.ledger.specs.Method.{Category, freshIn, A, D, E, N, Cell, cellFrom, latest}
+use Rattle.ledger.specs.Method.{Category, sameFamily, Picture, absent, freshIn, Flag, A, D, E, N, flagNumber, Cell, carried, cellFrom, latest}
+use Rattle.ledger.specs.Table.{tabulate, chosenBelow}
 use Rattle.ledger.specs.Net.{activeImport, activeExport, onSide, sumOver, anyOf, netOn}
 use Rattle.ledger.specs.Band.{BandCall}
-use Rattle.ledger.specs.Checks.{Registration, ReceptionCall, endMinute, quality, wattHoursAt, openingCheck, NetCall, mayNet}
-use Rattle.ledger.specs.Ledger.{Opening, categories, dates, periods, category, dayType, Ledger, receive, run, readTotals, readCell, refused, accepted, moved, Lengths, metersShort, anyShort, meterWith, currentOf, cellAt, dayOf, isRun, pictureOf, afterRun, totalsAt, sideAt, netAt, bandAt, ledgerAnswer}
-use Rattle.ledger.specs.Engine.{Every}
+use Rattle.ledger.specs.Checks.{Registration, RegistrationCall, ReceptionCall, endMinute, quality, wattHoursAt, openingCheck, NetCall, mayNet}
+use Rattle.ledger.specs.Sizes.{settingsLength, metersLength, readingsLength, cellsLength}
+use Rattle.ledger.specs.Ledger.{Opening, categories, dates, periods, category, dayType, Meter, Ledger, register, start, receive, run, readTotals, readCell, readNet, searchBand, Answer, refused, accepted, moved, totalsAre, cellIs, netIs, bandIs, answer, Lengths, leastLengths, metersShort, cellsShort, anyShort, meterWith, currentOf, cellAt, dayOf, isRun, pictureOf, afterRun, movedBetween, totalsAt, sideAt, netAt, bandAt, ledgerAnswer, ledgerAfter}
+use Rattle.ledger.specs.Calls.{openingVerdict}
+use Rattle.ledger.specs.Engine.{Parts, openedParts, Item, storeAnswers, cutLengths, lengthsOf, AreBytes, BodiesOfBytes, Every}
 
 -- ---- Demand 2, reception: a meter day is accepted exactly when the conditions hold
 
@@ -47,6 +50,252 @@ abbrev pub ReceptionExact : Type 0
 ReceptionExact =
     (l : Ledger) (n : Lengths) (a : ReceptionCall) → durationKnown (l .opening .duration) ≡ true → (ledgerAnswer l n (receive a) ≡ accepted) ↔ MayReceive l n a
 
+-- ---- Demand 2: which check fails first
+
+-- a row of the paper's table, as a call meets it: what has to hold, and the number and place that are returned where it does not
+pub record Row : Type 1 where
+  pub number : ℕ
+  pub place : ℕ
+  pub holds : Type 0
+
+-- most rows return place 0
+abbrev pub row : ℕ → Type 0 → Row
+row n P = record { number = n; place = 0; holds = P }
+
+-- those of record i return its place, counted from 1
+abbrev pub rowOf : ℕ → ℕ → Type 0 → Row
+rowOf i n P = record { number = n; place = suc i; holds = P }
+
+-- the rows of record 0, then those of record 1, and so on below n
+unfoldable pub eachBelow : ℕ → (ℕ → List Row) → List Row
+eachBelow zero rows = []
+eachBelow (suc n) rows = rows 0 ++ eachBelow n (λ i. rows (suc i))
+
+abbrev pub AllHold : List Row → Type 0
+AllHold [] = Unit {0}
+AllHold (r ∷ rows) = r .holds × AllHold rows
+
+-- top to bottom, the first row that does not hold returns number n and place p
+abbrev pub FirstFails : List Row → ℕ → ℕ → Type 0
+FirstFails [] n p = ⊥
+FirstFails (r ∷ rows) n p = ((r .holds → ⊥) × (n ≡ r .number) × (p ≡ r .place)) ⊎ (r .holds × FirstFails rows n p)
+
+-- an answer goes by rows: it is `given` exactly when all hold, and a refusal exactly with the number and place of the first that does not
+abbrev pub GoesBy : List Row → Answer → Answer → Type 0
+GoesBy rows given heard = ((heard ≡ given) ↔ AllHold rows) × ((n p : ℕ) → (heard ≡ refused n p) ↔ FirstFails rows n p)
+
+-- 1: each part lent has its least length; registration and reception are lent settings, meters and readings, reads settings and cells, opening
+-- and run all four
+abbrev pub MetersLong : Opening → Lengths → Type 0
+MetersLong o n = (leastLengths o .settings ≤ n .settings) × (leastLengths o .meters ≤ n .meters) × (leastLengths o .readings ≤ n .readings)
+
+abbrev pub CellsLong : Opening → Lengths → Type 0
+CellsLong o n = (leastLengths o .settings ≤ n .settings) × (leastLengths o .cells ≤ n .cells)
+
+abbrev pub AllLong : Opening → Lengths → Type 0
+AllLong o n = MetersLong o n × (leastLengths o .cells ≤ n .cells)
+
+-- opening
+
+-- 3
+pub record GoodSizes (o : Opening) : Type 0 where
+  pub duration : (o .duration ≡ 15) ⊎ (o .duration ≡ 30)
+  pub meters : (1 ≤ o .meters) × (o .meters ≤ 1024)
+  pub categories : (C : ℕ) × (1 ≤ C) × (C ≤ 64) × (length (o .categoryBytes) ≡ 8 * C)
+  pub dates : (1 ≤ length (o .dayTypes)) × (length (o .dayTypes) ≤ 800)
+
+-- 4: the fields of a category record
+abbrev pub ValidSmart : Category → Type 0
+ValidSmart a = (a .segment ≡ 1) × (1 ≤ a .group) × (a .group ≤ 14) × (1 ≤ a .domestic) × (a .domestic ≤ 2) × (a .window ≤ 2)
+
+abbrev pub ValidAdvanced : Category → Type 0
+ValidAdvanced a = (a .segment ≡ 2) × (a .group ≡ 0) × (a .domestic ≡ 0) × (a .window ≡ 0)
+
+pub record ValidCategory (a : Category) : Type 0 where
+  pub segment : ValidSmart a ⊎ ValidAdvanced a
+  pub quantity : (1 ≤ a .quantity) × (a .quantity ≤ 2)
+  pub connection : (1 ≤ a .connection) × (a .connection ≤ 4)
+
+-- the first five are the key
+pub record SameKey (a b : Category) : Type 0 where
+  pub segment : a .segment ≡ b .segment
+  pub group : a .group ≡ b .group
+  pub domestic : a .domestic ≡ b .domestic
+  pub quantity : a .quantity ≡ b .quantity
+  pub connection : a .connection ≡ b .connection
+
+-- a good record has a key that no earlier one has
+abbrev pub GoodCategory : Opening → ℕ → Type 0
+GoodCategory o i = ValidCategory (category o i) × ((k : ℕ) → k < i → SameKey (category o k) (category o i) → ⊥)
+
+-- 5
+abbrev pub GoodDayType : Opening → ℕ → Type 0
+GoodDayType o i = (1 ≤ dayType o i) × (dayType o i ≤ 16)
+
+abbrev pub openingRows : Opening → Lengths → List Row
+openingRows o n =
+    row 3 (GoodSizes o)
+    ∷ (eachBelow (categories o) (λ i. rowOf i 4 (GoodCategory o i) ∷ [])
+    ++ (eachBelow (dates o) (λ i. rowOf i 5 (GoodDayType o i) ∷ [])
+    ++ (row 1 (AllLong o n)
+    ∷ [])))
+
+abbrev pub OpeningExact : Type 0
+OpeningExact = (o : Opening) (n : Lengths) → GoesBy (openingRows o n) accepted (answer (openingCheck o (anyShort o n)) accepted)
+
+-- so the place of 4 is that of the first bad record, and the place of 5, where all records are good, that of the first bad day type
+abbrev pub FirstBad : (ℕ → Type 0) → ℕ → ℕ → Type 0
+FirstBad good n i = (i < n) × ((k : ℕ) → k < i → good k) × (good i → ⊥)
+
+abbrev pub OpeningPlaces : Type 0
+OpeningPlaces =
+    (o : Opening) (n : Lengths) (i : ℕ) →
+    let heard = answer (openingCheck o (anyShort o n)) accepted in
+    ((heard ≡ refused 4 (suc i)) ↔ (GoodSizes o × FirstBad (GoodCategory o) (categories o) i))
+    × ((heard ≡ refused 5 (suc i)) ↔ (GoodSizes o × ((k : ℕ) → k < categories o → GoodCategory o k) × FirstBad (GoodDayType o) (dates o) i))
+
+-- and no two categories of an accepted opening share a key
+abbrev pub KeysDiffer : Type 0
+KeysDiffer =
+    (o : Opening) (short : Bool) → openingCheck o short .number ≡ 0 → (i k : ℕ) → i < categories o → k < categories o → i ≢ k →
+    SameKey (category o i) (category o k) → ⊥
+
+-- registration
+
+-- it starts on its date at minute 0, else on the next date
+abbrev pub StartsOn : RegistrationCall → ℕ → Type 0
+StartsOn a start = ((a .minute ≡ 0) × (start ≡ a .date)) ⊎ ((a .minute ≢ 0) × (start ≡ a .date + 1))
+
+-- 16
+pub record GoodFields (o : Opening) (a : RegistrationCall) (start : ℕ) : Type 0 where
+  pub minute : a .minute ≤ 1439
+  pub category : a .category < categories o
+  pub status : (1 ≤ a .status) × (a .status ≤ 3)
+  pub starts : start < dates o
+
+-- `meter` is the one that has the MPAN, if it is known
+abbrev pub registrationRows : Ledger → Lengths → RegistrationCall → ℕ → Option Meter → List Row
+registrationRows l n a start meter =
+    row 1 (MetersLong (l .opening) n)
+    ∷ row 9 (a .date < dates (l .opening))
+    ∷ row 6 (mpanValid (a .mpan) ≡ true)
+    ∷ row 16 (GoodFields (l .opening) a start)
+    ∷ row 8 (meter ≡ none → length (l .known) < l .opening .meters)
+    ∷ row 10 ((m : Meter) → meter ≡ some m → (rs : List Registration) (r : Registration) → m .registrations ≡ rs ++ (r ∷ []) → r .start < start)
+    ∷ row 11 ((m : Meter) → meter ≡ some m → (d : ℕ) → start ≤ d → d < dates (l .opening) → m .held d ≡ none)
+    ∷ row 12 ((m : Meter) → meter ≡ some m → length (m .registrations) < 8)
+    ∷ []
+
+abbrev pub RegistrationExact : Type 0
+RegistrationExact =
+    (l : Ledger) (n : Lengths) (a : RegistrationCall) (start : ℕ) → StartsOn a start →
+    GoesBy (registrationRows l n a start (meterWith (a .mpan) (l .known))) accepted (ledgerAnswer l n (register a))
+
+-- reception
+
+-- record k of a body
+abbrev pub recordRows : Opening → Registration → List ℕ → ℕ → List Row
+recordRows o r body k =
+    rowOf k 13 ((1 ≤ quality body k) × (quality body k ≤ 14))
+    ∷ rowOf k 1005 ((j : ℕ) × (1 ≤ j) × (j ≤ periods o) × (endMinute body k ≡ j * o .duration))
+    ∷ rowOf k 1006 ((i : ℕ) → i < k → endMinute body i ≢ endMinute body k)
+    ∷ rowOf k 1008 (r .status ≡ 2 → quality body k ≤ 9)
+    ∷ rowOf k 1009 (r .status ≢ 3)
+    ∷ rowOf k 1011 (10 ≤ quality body k → quality body k ≤ 13 → wattHoursAt body k ≡ 0)
+    ∷ rowOf k 1012 (wattHoursAt body k ≤ r .limit)
+    ∷ []
+
+-- 2, 1001, 1002, 1004, 13: under the registration in force, if there is one
+abbrev pub underRows : Opening → ReceptionCall → Option Registration → List Row
+underRows o a none = []
+underRows o a (some r) =
+    row 2 (r .category < categories o)
+    ∷ row 1001 (a .sender ≡ r .sender)
+    ∷ row 1002 (a .quantity ≡ category o (r .category) .quantity)
+    ∷ row 1004 (a .duration ≡ o .duration)
+    ∷ row 13 ((k : ℕ) × (length (a .body) ≡ 7 * k))
+    ∷ []
+
+-- and before them 1, 9, 6, 7
+abbrev pub headerRows : Ledger → Lengths → ReceptionCall → Option Registration → List Row
+headerRows l n a current =
+    row 1 (MetersLong (l .opening) n)
+    ∷ row 9 (a .date < dates (l .opening))
+    ∷ row 6 (mpanValid (a .mpan) ≡ true)
+    ∷ row 7 ((r : Registration) × (current ≡ some r))
+    ∷ underRows (l .opening) a current
+
+-- then the records
+abbrev pub bodyRows : Opening → ReceptionCall → Option Registration → List Row
+bodyRows o a none = []
+bodyRows o a (some r) = eachBelow (length (a .body) / 7) (recordRows o r (a .body))
+
+abbrev pub ReceptionAnswer : Type 0
+ReceptionAnswer =
+    (l : Ledger) (n : Lengths) (a : ReceptionCall) → durationKnown (l .opening .duration) ≡ true →
+    let current = currentOf (a .date) (meterWith (a .mpan) (l .known)) in
+    GoesBy (headerRows l n a current ++ bodyRows (l .opening) a current) accepted (ledgerAnswer l n (receive a))
+
+-- so a refusal with a place is that of the first bad record, with the number of the first of its rows that does not hold
+abbrev pub ReceptionPlaces : Type 0
+ReceptionPlaces =
+    (l : Ledger) (n : Lengths) (a : ReceptionCall) (r : Registration) → durationKnown (l .opening .duration) ≡ true →
+    currentOf (a .date) (meterWith (a .mpan) (l .known)) ≡ some r →
+    (number k : ℕ) →
+    (ledgerAnswer l n (receive a) ≡ refused number (suc k))
+    ↔ (AllHold (headerRows l n a (some r)) × (k < length (a .body) / 7) × ((i : ℕ) → i < k → GoodRecord (l .opening) r (a .body) i)
+    × FirstFails (recordRows (l .opening) r (a .body) k) number (suc k))
+
+-- run and reads
+
+-- 14: for each date there is a picture, or "not run"
+abbrev pub HasPicture : Ledger → ℕ → Type 0
+HasPicture l d = (p : Picture) × (l .pictures d ≡ some p)
+
+abbrev pub RunExact : Type 0
+RunExact =
+    (l : Ledger) (n : Lengths) (d : ℕ) →
+    GoesBy (row 1 (AllLong (l .opening) n) ∷ row 9 (d < dates (l .opening)) ∷ [])
+    (moved (movedBetween (l .opening) (cellAt l) (cellAt (afterRun l d))))
+    (ledgerAnswer l n (run d))
+
+abbrev pub TotalsExact : Type 0
+TotalsExact =
+    (l : Ledger) (n : Lengths) (d c : ℕ) →
+    GoesBy
+    (row 1 (CellsLong (l .opening) n) ∷ row 9 (d < dates (l .opening)) ∷ row 15 (c < categories (l .opening)) ∷ row 14 (HasPicture l d) ∷ [])
+    (totalsAre (totalsAt l d c))
+    (ledgerAnswer l n (readTotals d c))
+
+abbrev pub CellExact : Type 0
+CellExact =
+    (l : Ledger) (n : Lengths) (d c j : ℕ) →
+    GoesBy
+    (row 1 (CellsLong (l .opening) n)
+    ∷ row 9 (d < dates (l .opening))
+    ∷ row 15 ((c < categories (l .opening)) × (1 ≤ j) × (j ≤ periods (l .opening)))
+    ∷ row 14 (HasPicture l d)
+    ∷ [])
+    (cellIs (cellAt l d c j))
+    (ledgerAnswer l n (readCell d c j))
+
+-- ---- Families
+
+-- Smart categories alike in domestic, quantity and connection
+pub record SameFamily (a b : Category) : Type 0 where
+  pub smart : (a .segment ≡ 1) × (b .segment ≡ 1)
+  pub same-domestic : a .domestic ≡ b .domestic
+  pub same-quantity : a .quantity ≡ b .quantity
+  pub same-connection : a .connection ≡ b .connection
+
+-- each Smart category is of its own family and an Advanced one of none; of two in one family either is in the other's
+abbrev pub FamilyExact : Type 0
+FamilyExact =
+    ((a b : Category) → (sameFamily a b ≡ true) ↔ SameFamily a b)
+    × ((a : Category) → a .segment ≡ 1 → sameFamily a a ≡ true)
+    × ((a b : Category) → a .segment ≡ 2 → (sameFamily a b ≡ false) × (sameFamily b a ≡ false))
+    × ((a b : Category) → sameFamily a b ≡ sameFamily b a)
+
 -- ---- Demand 2, runs and reads
 
 -- after a run each cell of the date is METH005's: its own shape, or what the nearest earlier run date of its day type left
@@ -60,6 +309,167 @@ RunIsMethod =
 -- a read never says 14 of a run date
 abbrev pub NeverNotRun : Type 0
 NeverNotRun = (l : Ledger) (n : Lengths) (d c j : ℕ) → isRun l d ≡ true → (ledgerAnswer l n (readCell d c j) ≢ refused 14 0) × (ledgerAnswer l n (readTotals d c) ≢ refused 14 0)
+
+-- ---- Demand 2, the nearest earlier run date
+
+-- e is a run date before d with the same day type
+pub record Earlier (l : Ledger) (e d : ℕ) : Type 0 where
+  pub before : e < d
+  pub is-run : isRun l e ≡ true
+  pub same-type : dayType (l .opening) e ≡ dayType (l .opening) d
+
+-- and the nearest: no other lies between the two
+pub record Nearest (l : Ledger) (e d : ℕ) : Type 0 where
+  pub earlier : Earlier l e d
+  pub none-between : (x : ℕ) → e < x → Earlier l x d → ⊥
+
+-- what date d takes over
+abbrev pub takenOver : Ledger → ℕ → ℕ → ℕ → Cell
+takenOver l d c j = latest (dayType (l .opening)) (λ x. dayOf (category (l .opening)) c j (l .pictures x)) (dayType (l .opening) d) d
+
+-- b copies a: value, count and origin, under flag E
+pub record CopyOf (a b : Cell) : Type 0 where
+  pub flagged : b .flag ≡ E
+  pub same-value : b .value ≡ a .value
+  pub same-count : b .count ≡ a .count
+  pub same-origin : b .origin ≡ a .origin
+
+-- flag N, value 0, count 0, origin 65535
+pub record NoShape (a : Cell) : Type 0 where
+  pub flagged : a .flag ≡ N
+  pub no-value : a .value ≡ 0
+  pub no-count : a .count ≡ 0
+  pub no-origin : a .origin ≡ 65535
+
+-- it is the cell of the nearest earlier run date of its day type, and without a shape where there is none
+abbrev pub NearestEarlier : Type 0
+NearestEarlier =
+    (l : Ledger) (d c j : ℕ) →
+    ((e : ℕ) → Nearest l e d → takenOver l d c j ≡ cellAt l e c j) × (((e : ℕ) → Earlier l e d → ⊥) → NoShape (takenOver l d c j))
+
+-- a cell that is not N is carried as its copy, N as no shape
+abbrev pub CarriedExact : Type 0
+CarriedExact = (a : Cell) → (a .flag ≢ N → CopyOf a (carried a)) × (a .flag ≡ N → NoShape (carried a))
+
+-- so a run date without a shape of its own carries the cell of that date, and has no shape where there is none
+abbrev pub CarriesNearest : Type 0
+CarriesNearest =
+    (l : Ledger) (d c j : ℕ) (picture : Picture) → l .pictures d ≡ some picture → freshIn (category (l .opening)) picture c j ≡ absent →
+    ((e : ℕ) → Nearest l e d → cellAt l d c j ≡ carried (cellAt l e c j)) × (((e : ℕ) → Earlier l e d → ⊥) → NoShape (cellAt l d c j))
+
+-- ---- Demand 2, totals
+
+-- the run dates among d and the n − 1 before it, upward
+abbrev pub runDatesAmong : Ledger → ℕ → ℕ → List ℕ
+runDatesAmong l n d = chosenBelow (suc d) (λ x. ltb d (x + n) && isRun l x)
+
+-- TOT7, OFF7 and PEAK7 are sums over the run dates among this and the 6 before; days7 counts them
+abbrev pub WeekExact : Type 0
+WeekExact =
+    (l : Ledger) (d c : ℕ) →
+    let week = runDatesAmong l 7 d in
+    (totalsAt l d c .tot7 ≡ sumOver week (λ x. totalsAt l x c .tot))
+    × (totalsAt l d c .off7 ≡ sumOver week (λ x. totalsAt l x c .off))
+    × (totalsAt l d c .peak7 ≡ sumOver week (λ x. totalsAt l x c .peak))
+    × (totalsAt l d c .days7 ≡ length week)
+
+-- days counts the run dates among this and the 364 before. ANN is their TOT sum where there are 365, and of any run date the whole number
+-- nearest to 365 times that sum over days, halves up: the quotient is less than ANN + 1/2 and at least ANN − 1/2
+abbrev pub YearExact : Type 0
+YearExact =
+    (l : Ledger) (d c : ℕ) →
+    let days = length (runDatesAmong l 365 d) in
+    let sum = sumOver (runDatesAmong l 365 d) (λ x. totalsAt l x c .tot) in
+    (totalsAt l d c .days ≡ days)
+    × (days ≡ 365 → totalsAt l d c .ann ≡ sum)
+    × (isRun l d ≡ true → (2 * (sum * 365) < 2 * days * totalsAt l d c .ann + days) × (2 * days * totalsAt l d c .ann ≤ 2 * (sum * 365) + days))
+
+-- TOT is the sum of the values of periods 1 to P
+abbrev pub TotIsSum : Type 0
+TotIsSum = (l : Ledger) (d c : ℕ) → totalsAt l d c .tot ≡ sumOver (tabulate (periods (l .opening)) suc) (λ j. cellAt l d c j .value)
+
+-- with a window OFF and PEAK make up TOT, on a date and over seven; with window 0 all four are 0
+abbrev pub OffAndPeak : Type 0
+OffAndPeak =
+    (l : Ledger) (d c : ℕ) → durationKnown (l .opening .duration) ≡ true →
+    (category (l .opening) c .window ≢ 0 →
+    (totalsAt l d c .peak + totalsAt l d c .off ≡ totalsAt l d c .tot) × (totalsAt l d c .peak7 + totalsAt l d c .off7 ≡ totalsAt l d c .tot7))
+    × (category (l .opening) c .window ≡ 0 →
+    (totalsAt l d c .off ≡ 0) × (totalsAt l d c .peak ≡ 0) × (totalsAt l d c .off7 ≡ 0) × (totalsAt l d c .peak7 ≡ 0))
+
+-- how many periods of a date have a cell with this flag
+abbrev pub flaggedOn : Ledger → ℕ → ℕ → Flag → ℕ
+flaggedOn l d c f = length (chosenBelow (periods (l .opening)) (λ k. eqb (flagNumber (cellAt l d c (suc k) .flag)) (flagNumber f)))
+
+-- FRESH counts A and D, BLANK counts N, and with the copies they make up all P periods
+abbrev pub FlagsCounted : Type 0
+FlagsCounted =
+    (l : Ledger) (d c : ℕ) →
+    (totalsAt l d c .fresh ≡ flaggedOn l d c A + flaggedOn l d c D)
+    × (totalsAt l d c .blanks ≡ flaggedOn l d c N)
+    × (totalsAt l d c .fresh + totalsAt l d c .blanks + flaggedOn l d c E ≡ periods (l .opening))
+
+-- ---- Demand 2, on the engine
+
+-- the ledger after a list of calls, each lent parts of the lengths `whole` cut
+unfoldable pub ledgerAfterItems : Ledger → Lengths → List Item → Ledger
+ledgerAfterItems l whole [] = l
+ledgerAfterItems l whole (i ∷ is) = ledgerAfterItems (ledgerAfter l (cutLengths (i .lent) whole) (i .call)) whole is
+
+-- and from an opening on, beside the parts p
+abbrev pub ledgerBeside : Parts → Opening → List Item → Ledger
+ledgerBeside p a items = ledgerAfterItems (start a) (lengthsOf p) items
+
+-- x is the store's answer to i after those items: the last one, behind the answers to them
+abbrev pub LastAnswer : Parts → List Item → Item → Answer → Type 0
+LastAnswer p items i x = storeAnswers p (items ++ (i ∷ [])) ≡ storeAnswers p items ++ (x ∷ [])
+
+-- an opening that is accepted
+abbrev pub Accepts : Parts → Opening → Type 0
+Accepts p a = openingVerdict (p .settings) (p .meters) (p .readings) (p .cells) a .number ≡ 0
+
+-- after any calls a reception is accepted exactly when the conditions hold
+abbrev pub EngineReceivesExactly : Type 0
+EngineReceivesExactly =
+    (p : Parts) (a : Opening) (items : List Item) (n : Lengths) (r : ReceptionCall) → Accepts p a → BodiesOfBytes items → AreBytes (r .body) →
+    LastAnswer (openedParts p a) items (record { lent = n; call = receive r }) accepted
+    ↔ MayReceive (ledgerBeside p a items) (cutLengths n (lengthsOf p)) r
+
+-- after any calls a run of a date, lent parts that are long enough, is accepted and reports how many cells differ before and after
+abbrev pub EngineRuns : Type 0
+EngineRuns =
+    (p : Parts) (a : Opening) (items : List Item) (n : Lengths) (d : ℕ) → Accepts p a → BodiesOfBytes items →
+    anyShort a (cutLengths n (lengthsOf p)) ≡ false → d < dates a →
+    let l = ledgerBeside p a items in
+    LastAnswer (openedParts p a) items (record { lent = n; call = run d }) (moved (movedBetween a (cellAt l) (cellAt (afterRun l d))))
+
+-- no run of date d, nor of an earlier date of its day type
+abbrev pub Spares : Opening → ℕ → Item → Type 0
+Spares a d i = (x : ℕ) → i .call ≡ run x → x ≤ d → dayType a x ≢ dayType a d
+
+-- after an accepted run of d, and any calls that are none of these runs, a cell of d is read as METH005's: from the sets held on d at the
+-- run, or what the nearest earlier run date of its day type left
+abbrev pub EngineReadsMethod : Type 0
+EngineReadsMethod =
+    (p : Parts) (a : Opening) (before after : List Item) (lentRun lentRead : Lengths) (d c j moves : ℕ) → Accepts p a → BodiesOfBytes before → BodiesOfBytes after →
+    LastAnswer (openedParts p a) before (record { lent = lentRun; call = run d }) (moved moves) →
+    Every (Spares a d) after →
+    cellsShort a (cutLengths lentRead (lengthsOf p)) ≡ false → c < categories a → 1 ≤ j → j ≤ periods a →
+    let l = ledgerBeside p a before in
+    LastAnswer (openedParts p a) (before ++ (record { lent = lentRun; call = run d } ∷ after)) (record { lent = lentRead; call = readCell d c j })
+    (cellIs
+    (cellFrom d (freshIn (category a) (pictureOf d (l .known)) c j)
+    (latest (dayType a) (λ x. dayOf (category a) c j (l .pictures x)) (dayType a d) d)))
+
+-- ---- Sizes
+
+-- the least length of each part is at most 64 times (M + C) times T times P entries
+abbrev pub PartsBounded : Type 0
+PartsBounded =
+    (M C T duration : ℕ) → (1 ≤ M) × (M ≤ 1024) → (1 ≤ C) × (C ≤ 64) → (1 ≤ T) × (T ≤ 800) → (duration ≡ 15) ⊎ (duration ≡ 30) →
+    let P = periodsPerDay duration in
+    let most = 64 * (M + C) * T * P in
+    (settingsLength C T ≤ most) × (metersLength M ≤ most) × (readingsLength M T P ≤ most) × (cellsLength C T P ≤ most)
 
 -- ---- Consequences
 
@@ -100,6 +510,27 @@ SideExact =
     ((f : ℕ → ℕ) → sumOver (sideAt l allGroups quantity c) f
     ≡ sumBelow (categories (l .opening)) (λ b. cond (onSide allGroups quantity (category (l .opening) c) (category (l .opening) b)) (f b) 0))
     × ((a b : Category) → (onSide allGroups quantity a b ≡ true) ↔ OnSide allGroups quantity a b)
+
+-- 26: the category is Smart import, and there is an export category on the other side
+pub record Paired (o : Opening) (allGroups : Bool) (c : ℕ) : Type 0 where
+  pub smart : category o c .segment ≡ 1
+  pub imports : category o c .quantity ≡ 1
+  pub partner : (p : ℕ) × (p < categories o) × OnSide allGroups 2 (category o c) (category o p)
+
+-- which check fails first; 1 is for the two lists of results too
+abbrev pub NetExact : Type 0
+NetExact =
+    (l : Ledger) (n : Lengths) (a : NetCall) →
+    let o = l .opening in
+    GoesBy
+    (row 1 (CellsLong o n × (periods o ≤ a .numbers) × (periods o ≤ a .marks))
+    ∷ row 9 (a .date < dates o)
+    ∷ row 15 (a .category < categories o)
+    ∷ row 26 (Paired o (a .allGroups) (a .category))
+    ∷ row 14 (HasPicture l (a .date))
+    ∷ [])
+    (netIs (netAt l a))
+    (ledgerAnswer l n (readNet a))
 
 -- in the first form a category that may be netted stands alone on its side, and one partner on the other
 abbrev pub OwnGroupPair : Type 0
@@ -167,6 +598,12 @@ SidesExchanged =
     × (negℤ (pos 0) ≡ pos 0)
 
 -- ---- Band searches (change request 2026-14)
+
+-- which check fails first: a search has no date
+abbrev pub BandAnswer : Type 0
+BandAnswer =
+    (l : Ledger) (n : Lengths) (a : BandCall) →
+    GoesBy (row 1 (CellsLong (l .opening) n) ∷ row 15 (a .category < categories (l .opening)) ∷ []) (bandIs (bandAt l a)) (ledgerAnswer l n (searchBand a))
 
 -- what it takes for a date to be found
 pub record InBand (l : Ledger) (a : BandCall) (d : ℕ) : Type 0 where

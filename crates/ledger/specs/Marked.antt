@@ -2,7 +2,7 @@
 use Prim.Native.Nat.{ℕ, zero, suc, _/_, _%_}
 use mathlib.Core.Path.{_≡_, refl}
 use mathlib.Core.Bool.{Bool, true, false, not, _&&_, Bool·beq}
-use mathlib.Core.List.{List, [], _∷_}
+use mathlib.Core.List.{List, [], _∷_, map}
 use mathlib.Core.Option.{some}
 use lib.Dec.{eqb}
 use lib.IntN.{ℤ, pos, negsuc}
@@ -19,6 +19,8 @@ use Rattle.ledger.specs.Band.{inBand, bandDates, bandOn}
 use Rattle.ledger.specs.Checks.{firstFailed, anyBelow, orElse, firstNumber, callNumber, contentNumber, recordNumberIf, recordNumber, endMinute, quality, wattHoursAt, startOf, later, inForceAfter, inForce, notAfterLast, fieldsNumber, knownNumber, meterNumber, registrationCheck, headerNumber, bodyCheck, inForceCheck, receptionCheck, isReading, readingIn, runCheck, readCheck, totalsInRange, cellInRange, resultsShort, mayNet, netCheck, bandCheck}
 use Rattle.ledger.specs.Sizes.{settingsLength, metersLength, readingsLength, cellsLength}
 use Rattle.ledger.specs.Ledger.{Opening, Ledger, start, Call, register, receive, run, readTotals, readCell, readNet, searchBand, Answer, refused, accepted, moved, totalsAre, netIs, bandIs, answer, left, Lengths, leastLengths, settingsShort, metersShort, cellsShort, anyShort, meterWith, changed, heldFrom, ledgerRegistrationCheck, registerIn, afterRegistration, ledgerReceptionCheck, setOf, at, afterReception, cellBy, cellAt, isRun, ledgerRunCheck, pictureOf, afterRun, movedBetween, ledgerTotalsCheck, ledgerCellCheck, totalsAt, ledgerNetCheck, sideAt, netAt, ledgerBandCheck, bandAt, ledgerAnswer, ledgerAfter}
+use Rattle.ledger.specs.Engine.{Parts, openedParts, Item, storeAnswers, lengthsOf}
+use Rattle.ledger.specs.Demands.{Accepts}
 
 -- the test holds of the n periods from 1 on
 unfoldable pub everyPeriod : ℕ → (ℕ → Bool) → Bool
@@ -238,3 +240,19 @@ pub worked-examples :
     × (ledgerRun (start bandOpening) (leastLengths bandOpening) bandCalls ≡ bandAnswers)
 unfolding ledgerRun start ledgerAnswer ledgerAfter answer left settingsShort metersShort cellsShort anyShort meterWith changed heldFrom ledgerRegistrationCheck registerIn afterRegistration ledgerReceptionCheck setOf at afterReception cellBy cellAt isRun ledgerRunCheck pictureOf afterRun movedBetween ledgerTotalsCheck ledgerCellCheck totalsAt settingsLength metersLength readingsLength cellsLength firstFailed startOf later inForceAfter inForce notAfterLast meterNumber registrationCheck bodyCheck inForceCheck receptionCheck isReading readingIn runCheck readCheck totalsInRange cellInRange movedCell overRunDates totOn offOn peakOn totalsOn categoryAt mpanValid checkDigit weightedSum product digit weights sumBelow average annual recordNumber periodEnding periodsPerDay liesWithin windowStart windowEnd between sameCell blank cellOn cellOf cellFrom latest afterDate freshIn freshOf isEnough total isSmart sameFamily anyBelow endMinute quality wattHoursAt carried netCheck resultsShort mayNet ledgerNetCheck sideAt netAt onSide chosenBelow sideOf sumOver anyOf signedSum netPeriod markOf netTot netTot7 netOn tabulate orElse firstNumber callNumber fieldsNumber knownNumber headerNumber recordNumberIf contentNumber bandCheck ledgerBandCheck bandAt bandOn bandDates inBand dayTypeValid
 worked-examples = (refl, refl, refl)
+
+-- ---- the same on the engine, from its opening on
+
+-- each call lent parts of the least lengths
+abbrev pub lentLeast : Opening → List Call → List Item
+lentLeast a calls = map (λ c. record { lent = leastLengths a; call = c }) calls
+
+-- in such parts, whatever they hold, the opening is accepted and the calls after it get these answers
+abbrev pub EngineAnswers : Opening → List Call → List Answer → Type 0
+EngineAnswers a calls answers =
+    (p : Parts) → lengthsOf p ≡ leastLengths a → Accepts p a × (storeAnswers (openedParts p a) (lentLeast a calls) ≡ answers)
+
+-- all three examples
+abbrev pub WorkedOnEngine : Type 0
+WorkedOnEngine =
+    EngineAnswers exampleOpening exampleCalls exampleAnswers × EngineAnswers netOpening netCalls netAnswers × EngineAnswers bandOpening bandCalls bandAnswers

@@ -105,7 +105,7 @@ usedFrom M meters i (suc n) k =
 unfoldable pub registrationsAt : ℕ → List ℕ → ℕ → List Registration
 registrationsAt M meters i = usedFrom M meters i 8 0
 
--- the registrations of an MPAN, if it is known
+-- whether an MPAN is known: its slot has it, and is no free one nor past the last
 unfoldable pub knownAt : ℕ → ℕ → List ℕ → Bool
 knownAt M mpan meters = ltb (slotOf M mpan meters) M && eqb (mpanAt meters (slotOf M mpan meters)) mpan
 

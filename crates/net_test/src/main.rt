@@ -3,6 +3,7 @@ mod nets;
 mod show;
 
 use commands::Capacity;
+use session::Stage;
 
 fn main() {
     let mut category_records = [0u8; 96];
@@ -11,7 +12,7 @@ fn main() {
     let mut meters = [0u64; 492];
     let mut readings = [0u64; 7056];
     let mut cells = [0u64; 6912];
-    console::converse(
+    let end = console::converse(
         &mut category_records,
         &mut day_types,
         &mut settings,
@@ -23,8 +24,13 @@ fn main() {
             date_periods: 576,
         },
     );
-    nets::all_nets(&settings, &cells, false);
-    nets::all_nets(&settings, &cells, true);
-    nets::other_lengths(&settings, &cells);
-    nets::without_the_last_cell(&settings, &cells);
+    match end {
+        Stage::WriteFailed => {}
+        _ => {
+            nets::all_nets(&settings, &cells, false);
+            nets::all_nets(&settings, &cells, true);
+            nets::other_lengths(&settings, &cells);
+            nets::without_the_last_cell(&settings, &cells);
+        }
+    }
 }

@@ -6,32 +6,29 @@ use lib.Seq.{length-take-le}
 use Rattle.ledger.proofs.Lists.{part-length}
 use Rattle.commands.specs.Commands.{State}
 use Rattle.commands.proofs.Laws.{some-there, opening-there, category-there, day-type-there, collects-category, collects-day-type, uses-up, asks, opening-appended, asked-appended}
-use Rattle.session.proofs.Laws.{line-printed, category-printed, day-type-printed}
+use Rattle.session.proofs.Laws.{category-printed, day-type-printed}
 use Rattle.session.specs.Session.{stateOf}
 use borrow.Author.Needs.{needs}
-use Rattle.session.proofs.obey.Statement.{statement}
-use Rattle.session.proofs.obey.Tie as tie
+use Rattle.session.proofs.command.obey.Statement.{statement}
+use Rattle.session.proofs.command.obey.Tie as tie
 
 abbrev begun : tie.Start → State
 begun s =
     let a = s .args in
     stateOf (a .session) (now (a .category-records)) (now (a .day-types)) (now (a .settings)) (now (a .meters)) (now (a .readings)) (now (a .cells))
 
--- the entry, from an 11, from a 12, and from where a line is made room for
+-- the entry, from an 11, from a 12, and from any other command
 abbrev collecting : tie.Then1 → tie.Start
 collecting c = c .before .before .before .before .before .before .before .before .before .before
 
 abbrev collecting-day-type : tie.Then2 → tie.Start
 collecting-day-type c = c .before .before .before .before .before .before .before .before .before .before .before
 
-abbrev start : tie.After-with-room → tie.Start
-start c = c .before .before .before .before .before .before .before .before .before .before .before .before .before
+abbrev start : tie.Else2 → tie.Start
+start c = c .before .before .before .before .before .before .before .before .before .before .before
 
 abbrev start-of-after-shared-slice-known2 : tie.After-shared-slice-known2 → tie.Start
 start-of-after-shared-slice-known2 c = c .before .before .before .before .before .before .before .before .before
-
-abbrev else1 : tie.After-with-room → tie.Else1
-else1 c = c .before .before .before
 
 abbrev then1 : tie.After-slice-known8 → tie.Then1
 then1 c = c .before .before .before .before .before
@@ -52,7 +49,7 @@ abbrev after-open : tie.After-slice-known14 → tie.After-open
 after-open c = c .before .before .before .before .before .before .before .before .before .before
 
 shared-slice-read-code : tie.Need-shared-slice-read-code
-shared-slice-read-code c = some-there _ (start-of-after-shared-slice-known2 c .pre .0)
+shared-slice-read-code c = some-there _ (start-of-after-shared-slice-known2 c .pre .0 .0)
 
 sub-append : tie.Need-sub-append
 sub-append c = search needs
@@ -61,13 +58,13 @@ part-append-start : tie.Need-part-append-start
 part-append-start c = search needs
 
 part-append-end : tie.Need-part-append-end
-part-append-end c = category-there _ (collecting (c .before) .pre .0) (c .before .if1 .taken)
+part-append-end c = category-there _ (collecting (c .before) .pre .0 .0) (c .before .if1 .taken)
 
 append-requires : tie.Need-append-requires
 append-requires c κs =
     let s = collecting (c .before .before) in
     let code = c .before .before .if1 .taken in
-    omega (arith, s .pre .1 .1 .category code, part-length (now (s .args .command)) 1 8 (omega (arith, category-there _ (s .pre .0) code)))
+    omega (arith, s .pre .1 .1 .category code, part-length (now (s .args .command)) 1 8 (omega (arith, category-there _ (s .pre .0 .0) code)))
 
 same-length : tie.Need-same-length
 same-length c = search needs
@@ -78,15 +75,14 @@ returns c =
     let s = collecting t in
     let held = s .pre .1 .0 in
     let code = t .if1 .taken in
-    let more = part-length (now (s .args .command)) 1 8 (omega (arith, category-there _ (s .pre .0) code)) in
+    let more = part-length (now (s .args .command)) 1 8 (omega (arith, category-there _ (s .pre .0 .0) code)) in
     let put = c .before .before .append .ensures in (
       record {
-        line = held .line;
         waiting = held .waiting;
         categories = omega (arith, s .pre .1 .1 .category code, more, put .end);
         dayTypes = held .dayTypes;
       },
-      ((refl, refl), (collects-category (s .args .capacity) (begun s) (now (s .args .command)) _ code (put .held), category-printed (s .args .capacity) (begun s) (now (s .args .command)) _ code)),
+      ((refl, refl, refl, refl), (collects-category (s .args .capacity) (begun s) (now (s .args .command)) _ code (put .held), category-printed (s .args .capacity) (begun s) (now (s .args .command)) _ code)),
     )
 
 sub-append-2 : tie.Need-sub-append-2
@@ -96,13 +92,13 @@ part-append-start-2 : tie.Need-part-append-start-2
 part-append-start-2 c = search needs
 
 part-append-end-2 : tie.Need-part-append-end-2
-part-append-end-2 c = day-type-there _ (collecting-day-type (c .before) .pre .0) (c .before .if2 .taken)
+part-append-end-2 c = day-type-there _ (collecting-day-type (c .before) .pre .0 .0) (c .before .if2 .taken)
 
 append-requires-2 : tie.Need-append-requires-2
 append-requires-2 c κs =
     let s = collecting-day-type (c .before .before) in
     let code = c .before .before .if2 .taken in
-    omega (arith, s .pre .1 .1 .dayType code, part-length (now (s .args .command)) 1 1 (omega (arith, day-type-there _ (s .pre .0) code)))
+    omega (arith, s .pre .1 .1 .dayType code, part-length (now (s .args .command)) 1 1 (omega (arith, day-type-there _ (s .pre .0 .0) code)))
 
 same-length-2 : tie.Need-same-length-2
 same-length-2 c = search needs
@@ -113,19 +109,15 @@ returns-2 c =
     let s = collecting-day-type t in
     let held = s .pre .1 .0 in
     let code = t .if2 .taken in
-    let more = part-length (now (s .args .command)) 1 1 (omega (arith, day-type-there _ (s .pre .0) code)) in
+    let more = part-length (now (s .args .command)) 1 1 (omega (arith, day-type-there _ (s .pre .0 .0) code)) in
     let put = c .before .before .append2 .ensures in (
       record {
-        line = held .line;
         waiting = held .waiting;
         categories = held .categories;
         dayTypes = omega (arith, s .pre .1 .1 .dayType code, more, put .end);
       },
-      ((refl, refl), (collects-day-type (s .args .capacity) (begun s) (now (s .args .command)) _ code (put .held), day-type-printed (s .args .capacity) (begun s) (now (s .args .command)) _ code)),
+      ((refl, refl, refl, refl), (collects-day-type (s .args .capacity) (begun s) (now (s .args .command)) _ code (put .held), day-type-printed (s .args .capacity) (begun s) (now (s .args .command)) _ code)),
     )
-
-with-room-requires : tie.Need-with-room-requires
-with-room-requires c κs = search needs
 
 slice-reshare-prefix-open : tie.Need-slice-reshare-prefix-open
 slice-reshare-prefix-open c = search needs
@@ -142,7 +134,8 @@ slice-aggregate-open-2 c = sym (length-take-le _ _ (start (c .before .before .be
 open-requires : tie.Need-open-requires
 open-requires c κs =
     let t = then3 c in
-    (opening-there _ (start (t .before) .pre .0) (t .if3 .taken), t .before .with-room .ensures .line)
+    let p = start (t .before) .pre .0 in
+    (opening-there _ (p .0) (t .if3 .taken), p .1)
 
 same-length-3 : tie.Need-same-length-3
 same-length-3 c = search needs
@@ -172,22 +165,20 @@ returns-3 c =
     let b = now (s .args .command) in
     let held = s .pre .1 .0 in
     let code = t .if3 .taken in
-    let room = t .before .with-room .ensures in
     let put = after-open c .«open» .ensures in (
       record {
-        line = held .line;
-        waiting = omega (arith, put .1 .1, room .line);
+        waiting = omega (arith, put .1 .1, s .pre .0 .1);
         categories = omega arith;
         dayTypes = omega arith;
       },
-      ((refl, refl), (uses-up (s .args .capacity) (begun s) b _ code (put .1 .0), line-printed room (opening-appended (s .args .capacity) (begun s) b code (put .0)))),
+      ((refl, refl, refl, refl), (uses-up (s .args .capacity) (begun s) b _ code (put .1 .0), opening-appended (s .args .capacity) (begun s) b code (put .0) .held)),
     )
 
 ask-requires : tie.Need-ask-requires
 ask-requires c κs =
     let e = else3 c in
     let w = e .before in
-    ((start w .pre .0, w .with-room .ensures .line), (e .if3 .left, else1 w .if1 .left, w .before .before .if2 .left))
+    (start w .pre .0, (e .if3 .left, w .before .if1 .left, w .if2 .left))
 
 same-length-10 : tie.Need-same-length-10
 same-length-10 c = search needs
@@ -212,17 +203,15 @@ returns-4 c =
     let b = now (s .args .command) in
     let held = s .pre .1 .0 in
     let no-opening = e .if3 .left in
-    let no-category = else1 w .if1 .left in
-    let no-day-type = w .before .before .if2 .left in
-    let room = w .with-room .ensures in
+    let no-category = w .before .if1 .left in
+    let no-day-type = w .if2 .left in
     let put = after-ask c .ask .ensures in (
       record {
-        line = held .line;
-        waiting = omega (arith, put .1 .1, room .line);
+        waiting = omega (arith, put .1 .1, s .pre .0 .1);
         categories = held .categories;
         dayTypes = held .dayTypes;
       },
-      ((refl, refl), (asks (s .args .capacity) (begun s) b _ no-opening no-category no-day-type (put .1 .0), line-printed room (asked-appended (s .args .capacity) (begun s) b no-opening no-category no-day-type (put .0)))),
+      ((refl, refl, refl, refl), (asks (s .args .capacity) (begun s) b _ no-opening no-category no-day-type (put .1 .0), asked-appended (s .args .capacity) (begun s) b no-opening no-category no-day-type (put .0) .held)),
     )
 
 pub obey-spec : {M : Type 1} → statement M
@@ -242,7 +231,6 @@ obey-spec =
     append-requires-2
     same-length-2
     returns-2
-    with-room-requires
     slice-reshare-prefix-open
     slice-aggregate-open
     slice-reshare-prefix-open-2

@@ -1,4 +1,4 @@
--- `dialogue::shift` meets its contract: one byte a turn.
+-- `blocks::shift` meets its contract: one byte a turn.
 use denote.Ref.{now}
 use borrow.Author.Needs.{needs}
 use Prim.Native.Nat.{_+_, _-_, _≤_, _<_}
@@ -6,8 +6,8 @@ use mathlib.Core.Path.{_≡_, refl}
 use native.Mathlib.Omega.{arith}
 use lib.ListN.{length, take, drop, length-set}
 use Rattle.console.proofs.Laws.{shift-front, shift-rest}
-use Rattle.console.proofs.dialogue.shift.Statement.{statement}
-use Rattle.console.proofs.dialogue.shift.Tie as tie
+use Rattle.console.proofs.blocks.shift.Statement.{statement}
+use Rattle.console.proofs.blocks.shift.Tie as tie
 
 abbrev Inv-loop : tie.InvT-loop
 Inv-loop block₀ from count i₀ block i =
