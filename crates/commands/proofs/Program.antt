@@ -10,7 +10,7 @@ use borrow.Author.Tests.{ne-eqb}
 use Rattle.input.specs.declared.extent.Extent.{Extent}
 use Rattle.input.specs.declared.extent.Extent.the-variants.{Whole, Cut, Bad}
 use Rattle.input.proofs.Laws.{extent-empty}
-use Rattle.input.proofs.Growth.{Stable, whole-command, extent-stable}
+use Rattle.input.proofs.Growth.{Stable, whole-command, extent-stable, bad-no-cut}
 use Rattle.commands.specs.Program.{Program, Progress, paused, behind, byExtent, obeyed, progress, fed, fedAll, joined, badLine, outputOf, Setup, storeProgram, AnyBlocks, BadEnds}
 
 -- no byte is a cut command; a whole one has a byte and is there; more bytes behind leave it what it is
@@ -113,11 +113,8 @@ module _ {S : Type 0} (m : Program S) (steady : Steady m) where
   bad-ends-in s xs ys bad =
       let p = progress m s xs in
       let later : m .extent (p .state) (p .untaken ++ ys) ≡ Bad = rw bad at (steady .stable (p .state) (p .untaken) ys) in
-      let some : length (p .untaken ++ ys) ≢ 0 = λ e. differ (sym (steady .none (p .state) (p .untaken ++ ys) e) ∙ later) in
+      let some : length (p .untaken ++ ys) ≢ 0 = λ e. bad-no-cut (sym later ∙ steady .none (p .state) (p .untaken ++ ys) e) in
       rw (← one-block s xs ys, progress-paused (p .state) (p .untaken ++ ys) (rw later tt), ne-eqb (length (p .untaken ++ ys)) 0 some, append-nil (p .output))
-    where
-      differ : Cut ≡ Bad → ⊥
-      differ e = let z : _≡_ {A = ℕ} 0 1 = cc in absurd (omega arith)
 
 pub store-steady : (g : Setup) → Steady (storeProgram g)
 store-steady g =

@@ -6,23 +6,21 @@ use mathlib.Core.Bool.{false, true≢false}
 use mathlib.Core.List.{List, [], _∷_, _++_, append-nil, append-assoc}
 use native.Mathlib.Omega.{arith}
 use native.Mathlib.Nat.{not-suc-le-zero}
-use lib.ListN.{length, getD, take, drop, length-take, List·getD-eq-default}
-use lib.Dec.{ltb}
-use lib.Seq.{getD-take, getD-drop}
-use borrow.Author.Tests.{ltb-true, ltb-false}
-use borrow.Table.Steps.{cases}
+use lib.ListN.{length, drop}
 use denote.Enum.Declared.{tagOf}
 use types.Run.{OneOf, miss}
+use Rattle.ledger.specs.Engine.{AreBytes}
 use Rattle.ledger.proofs.Lists.{part-length}
+use Rattle.ledger.proofs.Bytes.{bytes-take, bytes-drop}
 use Rattle.input.specs.declared.extent.Extent.the-variants.{Cut}
 use Rattle.input.proofs.Growth.{cut-short}
 use Rattle.commands.specs.Commands.{State}
 use Rattle.commands.specs.Program.{Setup, storeProgram}
-use Rattle.session.specs.declared.Session.{Session}
-use Rattle.session.specs.declared.Stage.{Stage}
-use Rattle.session.specs.declared.Stage.the-variants.{Going, Full, Short, InputEnd, SaidBad, ReadFailed, WriteFailed}
+use Rattle.session.specs.declared.held.Session.{Session}
+use Rattle.session.specs.declared.held.Stage.{Stage}
+use Rattle.session.specs.declared.held.Stage.the-variants.{Going, Full, Short, InputEnd, SaidBad, ReadFailed, WriteFailed}
 use Rattle.session.specs.Session.{Held, BlockBounds, isGoing, lastLine, Because, Obeyed, stateOf, untaken}
-use Rattle.session.proofs.Stage.{the-type}
+use Rattle.session.proofs.held.Stage.{the-type}
 use Rattle.console.specs.Turn.{Dialogue, HasRoom, SameCollected, Stands, Exchanged, Turned, Turns}
 
 -- ---- what only commands change
@@ -49,19 +47,11 @@ module _ (g : Setup) (s : State) (bytes : List ℕ) (waiting output : ℕ) where
 
 -- ---- room to read into, behind a cut command
 
-byte-at : (n at : ℕ) (input : List ℕ) → ((i : ℕ) → getD input i 0 < 256) → (i : ℕ) → getD (take n (drop at input)) i 0 < 256
-byte-at n at input bytes i =
-    cases (ltb i n)
-    (λ t. rw (getD-take n (drop at input) i 0 (ltb-true i n t), getD-drop at input i 0) (bytes (at + i)))
-    (λ f.
-    let past : length (take n (drop at input)) ≤ i = rw (length-take n (drop at input)) (omega (arith, ltb-false i n f)) in
-    rw (List·getD-eq-default (take n (drop at input)) 0 past) (omega arith))
-
-pub room-left : (g : Setup) (s : State) (r : Session) (input : List ℕ) (waiting output : ℕ) → ((i : ℕ) → getD input i 0 < 256) → BlockBounds r (length input) → 2056 ≤ length input →
+pub room-left : (g : Setup) (s : State) (r : Session) (input : List ℕ) (waiting output : ℕ) → AreBytes input → BlockBounds r (length input) → 2056 ≤ length input →
     Because g s (untaken r input) waiting output (r .stage) → r .stage ≡ Short → HasRoom r (length input)
 room-left g s r input waiting output bytes bounds long because short =
     let cut : storeProgram g .extent s (untaken r input) ≡ Cut = rw short at because in
-    let less = cut-short (untaken r input) _ _ (byte-at (r .end - r .at) (r .at) input bytes 15) cut in
+    let less = cut-short (untaken r input) _ _ (bytes-take (r .end - r .at) (drop (r .at) input) (bytes-drop (r .at) input bytes) 15) cut in
     omega (arith, less, long, part-length input (r .at) (r .end - r .at) (omega (arith, bounds .begun, bounds .block)))
 
 silent : (stage : Stage) → (stage ≡ Full) ⊎ (stage ≡ Short) → lastLine stage ≡ []

@@ -1,20 +1,21 @@
 -- A dialogue that came to its end printed what the program prints.
-use Prim.Native.Nat.{ℕ, _≤_}
+use Prim.Native.Nat.{ℕ}
 use mathlib.Core.Path.{_≡_, refl, sym, ap, _∙_}
 use mathlib.Core.Logic.{_≢_, _⊎_, inl, inr, ⊎-elim}
 use mathlib.Core.Bool.{true, true≢false}
 use mathlib.Core.List.{List, [], _∷_, _++_, append-nil, append-assoc}
 use native.Mathlib.Omega.{arith}
-use native.Mathlib.Nat.{not-suc-le-zero}
 use lib.ListN.{length}
 use borrow.Author.Tests.{ne-eqb}
 use Rattle.input.specs.declared.extent.Extent.the-variants.{Cut, Bad}
 use Rattle.commands.specs.Commands.{State}
 use Rattle.commands.specs.Program.{behind, progress, badLine, ending, outputOf, Setup, storeProgram}
 use Rattle.commands.proofs.Program.{NotWhole, behind-behind, progress-paused, one-block, store-steady}
-use Rattle.session.specs.declared.Stage.{Stage}
-use Rattle.session.specs.declared.Stage.the-variants.{Going, InputEnd, SaidBad}
+use Rattle.session.specs.declared.held.Stage.{Stage}
+use Rattle.session.specs.declared.held.Stage.the-variants.{Going, InputEnd, SaidBad}
 use Rattle.session.specs.Session.{isGoing, lastLine}
+use Rattle.input.proofs.Growth.{bad-no-cut}
+use Rattle.console.proofs.Laws.{none-left}
 use Rattle.console.specs.Turn.{Dialogue, begun, Exchanged, Turned, readBy, writtenBy, Turns, readIn, writtenIn, DialogueIsProgram}
 
 module _ (g : Setup) where
@@ -50,9 +51,6 @@ module _ (g : Setup) where
     input-end : d .stage ≡ InputEnd → d .untaken ≡ []
     said-bad : d .stage ≡ SaidBad → NotWhole (storeProgram g .extent (d .state) (d .untaken)) × (d .untaken ≢ [])
 
-  differ : Cut ≡ Bad → ⊥
-  differ e = let z : _≡_ {A = ℕ} 0 1 = cc in absurd (omega arith)
-
   ends-by : (d d′ : Dialogue) (left gathered : List ℕ) → Moved d d′ left gathered ⊎ Said d d′ left gathered → Ends d′
   ends-by d d′ left gathered (inl x) =
       record {
@@ -66,7 +64,7 @@ module _ (g : Setup) where
       record {
         input-end = λ e. let z : _≡_ {A = ℕ} 0 1 = other e (b .3) in absurd (omega arith);
         said-bad = λ e.
-            (rw (b .1, b .0) tt, λ none. differ (sym (store-steady g .none (d′ .state) left (ap length (sym (b .1) ∙ none))) ∙ b .0));
+            (rw (b .1, b .0) tt, λ none. bad-no-cut (sym (b .0) ∙ store-steady g .none (d′ .state) left (ap length (sym (b .1) ∙ none))));
       }
     where
       other : d′ .stage ≡ InputEnd → d′ .stage ≡ SaidBad → _≡_ {A = ℕ} 0 1
@@ -145,12 +143,8 @@ last-line g d e end =
     rw (stage, none, progress-paused m (store-steady g) (d .state) [] (rw (store-steady g .none (d .state) [] refl) tt)))
     (λ (stage : d .stage ≡ SaidBad).
     let bad = e .said-bad stage in
-    rw (stage, progress-paused m (store-steady g) (d .state) (d .untaken) (bad .0), ne-eqb (length (d .untaken)) 0 (λ z. bad .1 (no-bytes (d .untaken) z))))
+    rw (stage, progress-paused m (store-steady g) (d .state) (d .untaken) (bad .0), ne-eqb (length (d .untaken)) 0 (λ z. bad .1 (none-left (d .untaken) z))))
     end
-  where
-    no-bytes : (xs : List ℕ) → length xs ≡ 0 → xs ≡ []
-    no-bytes [] z = refl
-    no-bytes (x ∷ xs) z = let n : 1 ≤ 0 = omega (arith, z) in absurd (not-suc-le-zero n)
 
 not-going : (stage : Stage) → (stage ≡ InputEnd) ⊎ (stage ≡ SaidBad) → stage ≡ Going → ⊥
 not-going stage end going =

@@ -10,9 +10,9 @@ use Rattle.input.specs.declared.extent.Extent.the-variants.{Cut, Bad}
 use Rattle.ledger.specs.Engine.{Parts}
 use Rattle.commands.specs.Commands.{State}
 use Rattle.commands.specs.Program.{behind, progress, badLine, outputOf, Setup, storeProgram}
-use Rattle.session.specs.declared.Session.{Session}
-use Rattle.session.specs.declared.Stage.{Stage}
-use Rattle.session.specs.declared.Stage.the-variants.{Going, Full, Short, InputEnd, SaidBad, ReadFailed, WriteFailed}
+use Rattle.session.specs.declared.held.Session.{Session}
+use Rattle.session.specs.declared.held.Stage.{Stage}
+use Rattle.session.specs.declared.held.Stage.the-variants.{Going, Full, Short, InputEnd, SaidBad, ReadFailed, WriteFailed}
 use Rattle.session.specs.Session.{withWaiting, staged, isGoing, lastLine, stateOf, untaken}
 
 -- a dialogue between two turns: the program's state, the bytes not yet taken, the output not yet written, and how it stands

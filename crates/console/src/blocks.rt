@@ -9,7 +9,7 @@ ghost use mathlib.Core.Path.{_≡_};
 ghost use mathlib.Core.List.{[]};
 ghost use Prim.Native.Nat.{_+_, _≤_};
 ghost use lib.ListN.{length, take, drop};
-ghost use Rattle.session.specs.declared.Stage.the-variants.{Full, Short};
+ghost use Rattle.session.specs.declared.held.Stage.the-variants.{Full, Short};
 ghost use Rattle.session.specs.Session.{BlockBounds, untaken};
 ghost use Rattle.console.specs.Turn.{HasRoom, SameCollected, Flushed, stageAfter, Exchanged};
 

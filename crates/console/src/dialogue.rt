@@ -12,7 +12,7 @@ ghost use mathlib.Core.Logic.{_⊎_};
 ghost use Prim.Native.Nat.{_+_, _≤_};
 ghost use lib.ListN.{length, take};
 ghost use Rattle.commands.specs.Commands.{partsOf};
-ghost use Rattle.session.specs.declared.Stage.the-variants.{Going, Full, Short};
+ghost use Rattle.session.specs.declared.held.Stage.the-variants.{Going, Full, Short};
 ghost use Rattle.session.specs.Session.{Held, BlockBounds, setupOf, untaken};
 ghost use Rattle.console.specs.Turn.{dialogueOf, HasRoom, SameCollected, Exchanged, Turned, Ran, Conversed};
 

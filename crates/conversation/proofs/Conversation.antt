@@ -2,7 +2,7 @@
 use Prim.Native.Nat.{ℕ, zero, suc, _+_, _*_, _/_, _≤_, min}
 use mathlib.Core.Path.{_≡_, refl, sym, ap, _∙_}
 use mathlib.Core.Bool.{Bool, true, false, cond}
-use mathlib.Core.List.{List, [], _∷_, _++_, append-nil}
+use mathlib.Core.List.{List, [], _++_, append-nil}
 use mathlib.Core.Option.{Option, none, some}
 use native.Mathlib.Omega.{arith}
 use native.Mathlib.Nat.{not-suc-le-zero}
@@ -29,7 +29,8 @@ use Rattle.commands.specs.declared.capacity.Capacity.{Capacity}
 use Rattle.conversation.specs.Conversation.{Plain, plainOpening, plainAnswer, ledgerLeft, plainLine, plainAfter, plainProgram, firstPlain, SameBytes, DialogueIsPlain}
 use Rattle.console.proofs.Whole.{dialogue-is-program}
 use Rattle.commands.proofs.Laws.{collects-category, collects-day-type, uses-up, asks}
-use Rattle.conversation.proofs.Simulation.{bytes-take, bytes-drop, Simulates, same-output}
+use Rattle.ledger.proofs.Bytes.{bytes-append, bytes-take, bytes-drop}
+use Rattle.conversation.proofs.Simulation.{Simulates, same-output}
 
 -- ---- before the first accepted opening
 
@@ -126,11 +127,6 @@ holds-step n p none c h b = (unready-answer p (h .unready) c, rw (unready-leaves
 holds-step n p (some l) c h b = whole-step n p l c h b
 
 -- ---- what a reception is given is made of bytes
-
-bytes-append : (xs ys : List ℕ) → AreBytes xs → AreBytes ys → AreBytes (xs ++ ys)
-bytes-append [] ys h k i = k i
-bytes-append (x ∷ xs) ys h k zero = h 0
-bytes-append (x ∷ xs) ys h k (suc i) = bytes-append xs ys (λ j. h (suc j)) k i
 
 body-bytes : (n : ℕ) (b : List ℕ) → AreBytes b → AreBytes (bodyOf n b)
 unfolding bodyOf

@@ -1,12 +1,9 @@
 -- The worked dialogue computed, over the plain ledger and hence over the store.
-use Prim.Native.Nat.{ℕ, zero, suc}
+use Prim.Native.Nat.{ℕ}
 use Prim.Native.String.{String}
 use mathlib.Core.Path.{_≡_, refl, _∙_}
-use mathlib.Core.Bool.{Bool, true, _&&_}
+use mathlib.Core.Bool.{true}
 use mathlib.Core.List.{List, [], _∷_}
-use native.Mathlib.Omega.{arith}
-use lib.Dec.{ltb}
-use borrow.Author.Tests.{ltb-true}
 use Rattle.metering.specs.Sum.{sumBelow}
 use Rattle.metering.specs.Mpan.{mpanValid, checkDigit, weightedSum, product, digit, weights}
 use Rattle.metering.specs.Average.{average, annual}
@@ -16,8 +13,7 @@ use Rattle.ledger.specs.Method.{categoryAt, isSmart, sameFamily, total, isEnoug
 use Rattle.ledger.specs.Checks.{firstFailed, anyBelow, recordAt, categoryNumber, dayTypeNumber, orElse, sizesValid, openingCheck, firstNumber, callNumber, contentNumber, recordNumberIf, recordNumber, endMinute, quality, wattHoursAt, startOf, later, inForceAfter, inForce, fieldsNumber, meterNumber, registrationCheck, headerNumber, bodyCheck, inForceCheck, receptionCheck, isReading, readingIn, runCheck, readCheck, totalsInRange, cellInRange}
 use Rattle.ledger.specs.Sizes.{settingsLength, metersLength, readingsLength, cellsLength}
 use Rattle.ledger.specs.Ledger.{start, answer, left, settingsShort, metersShort, cellsShort, anyShort, meterWith, changed, ledgerRegistrationCheck, registerIn, afterRegistration, ledgerReceptionCheck, setOf, at, afterReception, cellBy, cellAt, isRun, ledgerRunCheck, pictureOf, afterRun, movedBetween, ledgerTotalsCheck, ledgerCellCheck, totalsAt, ledgerAnswer, ledgerAfter}
-use Rattle.ledger.specs.Engine.{AreBytes, Every}
-use Rattle.ledger.specs.Ready.{both}
+use Rattle.ledger.specs.Engine.{Every}
 use Rattle.input.specs.Operands.{bigEndian, bodyOf}
 use Rattle.input.specs.Form.{headLength, recordsExtent, isOverfull, commandExtent, extentOf}
 use Rattle.output.specs.Text.{decimalIn, decimalText, energyText}
@@ -26,17 +22,8 @@ use Rattle.commands.specs.Commands.{partsSuffice, callOf}
 use Rattle.commands.specs.Program.{obeyed, progress, outputOf}
 use Rattle.conversation.specs.Conversation.{plainOpening, plainAnswer, ledgerLeft, plainLine, plainAfter, plainProgram, firstPlain}
 use Rattle.conversation.specs.Example.{standardSetup, standardLengths, bytesOf, Prints, exampleInput, exampleOutput, WorkedDialogue, unopenedInput, unopenedOutput, UnopenedDialogue, badInputs, badOutput, BadInputs}
+use Rattle.ledger.proofs.Bytes.{allBytes, are-bytes}
 use Rattle.conversation.proofs.Conversation.{same-bytes}
-
--- a test that computes
-abbrev allBytes : List ℕ → Bool
-allBytes [] = true
-allBytes (x ∷ xs) = ltb x 256 && allBytes xs
-
-are-bytes : (xs : List ℕ) → allBytes xs ≡ true → AreBytes xs
-are-bytes [] e i = omega arith
-are-bytes (x ∷ xs) e zero = ltb-true x 256 (both (ltb x 256) (allBytes xs) e .0)
-are-bytes (x ∷ xs) e (suc i) = are-bytes xs (both (ltb x 256) (allBytes xs) e .1) i
 
 -- an input of bytes, and what the program over the plain ledger prints for it
 abbrev Computed : List ℕ → String → Type 0

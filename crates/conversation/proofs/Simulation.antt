@@ -1,27 +1,13 @@
 -- Two programs that are alike command by command print the same bytes.
-use Prim.Native.Nat.{ℕ, zero, suc, _+_}
+use Prim.Native.Nat.{ℕ, zero, suc}
 use mathlib.Core.Path.{_≡_, refl, ap₂}
-use mathlib.Core.List.{List, [], _∷_, _++_}
-use native.Mathlib.Omega.{arith}
+use mathlib.Core.List.{List, _++_}
 use lib.ListN.{length, take, drop}
-use lib.Seq.{getD-drop}
 use Rattle.ledger.specs.Engine.{AreBytes}
+use Rattle.ledger.proofs.Bytes.{bytes-take, bytes-drop}
 use Rattle.input.specs.declared.extent.Extent.{Extent}
 use Rattle.input.specs.declared.extent.Extent.the-variants.{Whole, Cut, Bad}
 use Rattle.commands.specs.Program.{Program, Progress, paused, behind, byExtent, obeyed, progress, ending, outputOf}
-
--- ---- parts of bytes are bytes
-
-pub bytes-take : (n : ℕ) (xs : List ℕ) → AreBytes xs → AreBytes (take n xs)
-bytes-take zero xs h i = omega arith
-bytes-take (suc n) [] h i = omega arith
-bytes-take (suc n) (x ∷ xs) h zero = h 0
-bytes-take (suc n) (x ∷ xs) h (suc i) = bytes-take n xs (λ j. h (suc j)) i
-
-pub bytes-drop : (n : ℕ) (xs : List ℕ) → AreBytes xs → AreBytes (drop n xs)
-bytes-drop n xs h i = rw (getD-drop n xs i 0) (h (n + i))
-
--- ---- a relation between states
 
 module _ {S T : Type 0} (m : Program S) (k : Program T) (R : S → T → Type 0) where
   -- states that are related find the same command next, print the same line for it, and stay related

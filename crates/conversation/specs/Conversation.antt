@@ -14,7 +14,7 @@ use Rattle.output.specs.Lines.{answerLine}
 use Rattle.commands.specs.Commands.{code, openingOf, sufficesFor, callOf}
 use Rattle.commands.specs.Program.{Program, outputOf, Setup, nextExtent, storeProgram, firstState}
 use Rattle.commands.specs.declared.capacity.Capacity.{Capacity}
-use Rattle.session.specs.declared.Stage.the-variants.{InputEnd, SaidBad}
+use Rattle.session.specs.declared.held.Stage.the-variants.{InputEnd, SaidBad}
 use Rattle.console.specs.Turn.{Dialogue, begun, Turns, readIn, writtenIn}
 
 -- the program between two commands; there is no ledger before the first accepted opening

@@ -146,7 +146,7 @@ module _ (xs ys : List ℕ) where
 no-cut : {P : Type 0} {k : ℕ} → Whole k ≡ Cut → P
 no-cut e = let z : _≡_ {A = ℕ} 0 1 = cc in absurd (omega arith)
 
-bad-no-cut : {P : Type 0} → Bad ≡ Cut → P
+pub bad-no-cut : {P : Type 0} → Bad ≡ Cut → P
 bad-no-cut e = let z : _≡_ {A = ℕ} 0 1 = cc in absurd (omega arith)
 
 records-short : (n : ℕ) (b : List ℕ) (at : ℕ) → recordsExtent n b at ≡ Cut → length b < at + 8 * n

@@ -1,5 +1,5 @@
 -- Demand 2 on the engine: by agreement the store's answers are the ledger's, of which it is proved.
-use Prim.Native.Nat.{ℕ, zero, suc, _≤_, _<_}
+use Prim.Native.Nat.{ℕ, _≤_, _<_}
 use mathlib.Core.Path.{_≡_, refl, sym, ap, _∙_}
 use mathlib.Core.Logic.{⊎-elim}
 use mathlib.Core.Bool.{Bool, true, false, _&&_, and-eq-true-iff}
@@ -7,9 +7,9 @@ use mathlib.Core.List.{List, [], _∷_, _++_, map}
 use mathlib.Core.Option.{some}
 use native.Mathlib.Omega.{arith}
 use native.Mathlib.Nat.{le-refl, min-eq-left}
-use lib.Dec.{eqb, leb, ltb}
+use lib.Dec.{eqb, leb}
 use borrow.Table.Steps.{cases}
-use borrow.Author.Tests.{eqb-true, leb-false, lt-leb, lt-ltb, le-ltb, ltb-true}
+use borrow.Author.Tests.{eqb-true, leb-false, lt-leb, lt-ltb, le-ltb}
 use Rattle.metering.specs.Calendar.{durationKnown}
 use Rattle.metering.specs.Laws.{between-true}
 use Rattle.metering.specs.Range.{between, metersInRange, categoriesInRange, datesInRange, dayTypeValid, smartValid, advancedValid, categoryValid}
@@ -18,13 +18,14 @@ use Rattle.ledger.specs.Checks.{Verdict, firstFailed, anyBelow, orElse, 
 use Rattle.ledger.specs.Sizes.{settingsLength, metersLength, readingsLength, cellsLength}
 use Rattle.ledger.specs.Ledger.{Opening, categories, dates, periods, category, dayType, Ledger, start, Call, register, receive, run, readTotals, readCell, readNet, searchBand, Answer, refused, moved, cellIs, answer, left, Lengths, leastLengths, settingsShort, metersShort, cellsShort, anyShort, afterRegistration, afterReception, pictureOf, afterRun, movedBetween, cellBy, cellAt, dayOf, isPicture, isRun, ledgerRegistrationCheck, ledgerReceptionCheck, ledgerRunCheck, ledgerCellCheck, ledgerAnswer, ledgerAfter}
 use Rattle.ledger.specs.Calls.{openingVerdict}
-use Rattle.ledger.specs.Engine.{Parts, openedParts, Item, answersFrom, storeAnswers, cutLengths, ledgerAnswers, lengthsOf, AreBytes, BodyOfBytes, BodiesOfBytes, Every}
+use Rattle.ledger.specs.Engine.{Parts, openedParts, Item, answersFrom, storeAnswers, cutLengths, ledgerAnswers, lengthsOf, BodyOfBytes, BodiesOfBytes, Every}
 use Rattle.ledger.specs.Demands.{ledgerAfterItems, ledgerBeside, LastAnswer, Accepts, EngineReceivesExactly, EngineRuns, Spares, EngineReadsMethod}
 use Rattle.ledger.specs.Marked.{exampleOpening, exampleCalls, exampleAnswers, netOpening, netCalls, netAnswers, bandOpening, bandCalls, bandAnswers, ledgerRun, worked-examples, lentLeast, EngineAnswers, WorkedOnEngine}
 use Rattle.ledger.proofs.Choices.{check-passed}
 use Rattle.ledger.proofs.Verdicts.{left-none, left-of}
 use Rattle.ledger.proofs.Chosen.{every-append}
 use Rattle.ledger.proofs.Open.{opening-accepted}
+use Rattle.ledger.proofs.Bytes.{allBytes, are-bytes}
 use Rattle.ledger.proofs.Agreement.{agreement}
 use Rattle.ledger.proofs.Demands.{at-same, at-other, latest-alike, run-is-method}
 use Rattle.ledger.proofs.CallDemands.{reception-exact}
@@ -228,15 +229,6 @@ least-long a =
     )
 
 -- bodies of bytes, as a computed test
-abbrev bytesOnly : List ℕ → Bool
-bytesOnly [] = true
-bytesOnly (x ∷ xs) = ltb x 256 && bytesOnly xs
-
-bytes : (xs : List ℕ) → bytesOnly xs ≡ true → AreBytes xs
-bytes [] e i = omega arith
-bytes (x ∷ xs) e zero = ltb-true x 256 (and-eq-true-iff (ltb x 256) (bytesOnly xs) .0 e .0)
-bytes (x ∷ xs) e (suc i) = bytes xs (and-eq-true-iff (ltb x 256) (bytesOnly xs) .0 e .1) i
-
 abbrev bodyOf : Call → List ℕ
 bodyOf (register a) = []
 bodyOf (receive a) = a .body
@@ -246,9 +238,9 @@ bodyOf (readCell d c j) = []
 bodyOf (readNet a) = []
 bodyOf (searchBand a) = []
 
-body-bytes : (c : Call) → bytesOnly (bodyOf c) ≡ true → BodyOfBytes c
+body-bytes : (c : Call) → allBytes (bodyOf c) ≡ true → BodyOfBytes c
 body-bytes (register a) e = tt
-body-bytes (receive a) e = bytes (a .body) e
+body-bytes (receive a) e = are-bytes (a .body) e
 body-bytes (run d) e = tt
 body-bytes (readTotals d c) e = tt
 body-bytes (readCell d c j) e = tt
@@ -257,12 +249,12 @@ body-bytes (searchBand a) e = tt
 
 abbrev bodiesBytes : List Call → Bool
 bodiesBytes [] = true
-bodiesBytes (c ∷ cs) = bytesOnly (bodyOf c) && bodiesBytes cs
+bodiesBytes (c ∷ cs) = allBytes (bodyOf c) && bodiesBytes cs
 
 bodies-bytes : (n : Lengths) (calls : List Call) → bodiesBytes calls ≡ true → BodiesOfBytes (map (λ c. record { lent = n; call = c }) calls)
 bodies-bytes n [] e = tt
 bodies-bytes n (c ∷ cs) e =
-    let both = and-eq-true-iff (bytesOnly (bodyOf c)) (bodiesBytes cs) .0 e in (body-bytes c (both .0), bodies-bytes n cs (both .1))
+    let both = and-eq-true-iff (allBytes (bodyOf c)) (bodiesBytes cs) .0 e in (body-bytes c (both .0), bodies-bytes n cs (both .1))
 
 -- an opening that is accepted in parts long enough, and calls whose bodies are bytes
 engine-answers : (a : Opening) (calls : List Call) (answers : List Answer) → openingCheck a false .number ≡ 0 → bodiesBytes calls ≡ true →

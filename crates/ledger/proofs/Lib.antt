@@ -19,6 +19,7 @@ pub mod Chosen
 pub mod Nets
 pub mod Answers
 pub mod Parts
+pub mod Bytes
 pub mod Agreement
 pub mod Demands
 pub mod FirstFailed

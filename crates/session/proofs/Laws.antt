@@ -15,9 +15,9 @@ use Rattle.commands.specs.Program.{behind, badLine, Setup, storeProgram}
 use Rattle.commands.specs.declared.capacity.Capacity.{Capacity}
 use Rattle.commands.proofs.Laws.{category-silent, day-type-silent}
 use Rattle.commands.proofs.Program.{behind-behind, progress-whole, store-steady}
-use Rattle.session.specs.declared.Session.{Session}
-use Rattle.session.specs.declared.Stage.{Stage}
-use Rattle.session.specs.declared.Stage.the-variants.{Going, Full, Short, InputEnd, SaidBad, ReadFailed, WriteFailed}
+use Rattle.session.specs.declared.held.Session.{Session}
+use Rattle.session.specs.declared.held.Stage.{Stage}
+use Rattle.session.specs.declared.held.Stage.the-variants.{Going, Full, Short, InputEnd, SaidBad, ReadFailed, WriteFailed}
 use Rattle.session.specs.Session.{Held, isGoing, lastLine, Because, Obeyed, setupOf, stateOf}
 
 -- ---- commands that print nothing

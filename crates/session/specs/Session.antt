@@ -8,9 +8,9 @@ use Rattle.input.specs.declared.extent.Extent.the-variants.{Cut, Bad}
 use Rattle.commands.specs.Commands.{State, partsOf}
 use Rattle.commands.specs.Program.{behind, progress, badLine, Setup, storeProgram}
 use Rattle.commands.specs.declared.capacity.Capacity.{Capacity}
-use Rattle.session.specs.declared.Session.{Session}
-use Rattle.session.specs.declared.Stage.{Stage}
-use Rattle.session.specs.declared.Stage.the-variants.{Going, Full, Short, InputEnd, SaidBad, ReadFailed, WriteFailed}
+use Rattle.session.specs.declared.held.Session.{Session}
+use Rattle.session.specs.declared.held.Stage.{Stage}
+use Rattle.session.specs.declared.held.Stage.the-variants.{Going, Full, Short, InputEnd, SaidBad, ReadFailed, WriteFailed}
 
 -- what waits and what is collected lie within their buffers
 pub record Held (s : Session) (output categoryRoom dayTypeRoom : ℕ) : Type 0 where

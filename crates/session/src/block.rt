@@ -1,7 +1,7 @@
 // The commands of a block of input, obeyed one after the other.
-use crate::Session;
-use crate::Stage;
 use crate::command::obey;
+use crate::held::Session;
+use crate::held::Stage;
 use commands::Capacity;
 use input::extent::Extent;
 use input::extent::command_extent;
@@ -12,7 +12,7 @@ ghost use mathlib.Core.List.{_++_};
 ghost use Prim.Native.Nat.{_+_, _≤_, _<_};
 ghost use lib.ListN.{length, take};
 ghost use Rattle.commands.specs.Program.{badLine};
-ghost use Rattle.session.specs.declared.Stage.the-variants.{Going, SaidBad};
+ghost use Rattle.session.specs.declared.held.Stage.the-variants.{Going, SaidBad};
 ghost use Rattle.session.specs.Session.{Held, BlockBounds, SameInput, withWaiting, staged, isGoing, setupOf, stateOf, untaken, Obeyed};
 
 pub fn is_going(stage: Stage) -> bool

@@ -1,5 +1,5 @@
 // A command obeyed.
-use crate::Session;
+use crate::held::Session;
 use commands::Capacity;
 use output::append::append;
 ghost use mathlib.Core.Path.{_≡_};

@@ -12,10 +12,10 @@ use lib.ListN.{length, take, drop, length-drop, length-take}
 use borrow.Rule.Slice.PartMut.{putMid}
 use borrow.Author.Needs.{needs}
 use Rattle.ledger.proofs.Lists.{part-length}
-use Rattle.session.specs.declared.Stage.{Stage}
-use Rattle.session.specs.declared.Stage.the-variants.{Going, Full, Short, InputEnd, SaidBad, ReadFailed, WriteFailed}
+use Rattle.session.specs.declared.held.Stage.{Stage}
+use Rattle.session.specs.declared.held.Stage.the-variants.{Going, Full, Short, InputEnd, SaidBad, ReadFailed, WriteFailed}
 use Rattle.session.specs.Session.{lastLine}
-use Rattle.session.proofs.Stage.{the-type}
+use Rattle.session.proofs.held.Stage.{the-type}
 use Rattle.console.specs.Turn.{Exchanged}
 use Rattle.console.proofs.Laws.{front-stands, read-behind, exchanged-after}
 use Rattle.console.proofs.blocks.refill.Statement.{statement}

@@ -9,7 +9,7 @@ use borrow.Author.Tests.{ltb-true, ltb-false}
 use mir.Val.{toZ, ofZ}
 use mir.Syntax.{w64}
 use mir.Facts.{toZ-ofZ}
-use Rattle.session.specs.declared.Stage.the-variants.{Going, InputEnd, SaidBad, ReadFailed}
+use Rattle.session.specs.declared.held.Stage.the-variants.{Going, InputEnd, SaidBad, ReadFailed}
 use Rattle.console.specs.Turn.{stageAfter}
 use Rattle.console.proofs.blocks.stage_after.Statement.{statement}
 use Rattle.console.proofs.blocks.stage_after.Tie as tie

@@ -2,7 +2,7 @@
 use mathlib.Core.Path.{refl, ap}
 use mathlib.Core.Logic.{inl, inr, ⊎-elim}
 use borrow.Author.Needs.{needs}
-use Rattle.session.specs.declared.Session.{Session}
+use Rattle.session.specs.declared.held.Session.{Session}
 use Rattle.console.proofs.dialogue.converse.Statement.{statement}
 use Rattle.console.proofs.dialogue.converse.Tie as tie
 

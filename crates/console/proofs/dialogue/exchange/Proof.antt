@@ -8,11 +8,11 @@ use denote.Ref.{now}
 use denote.Enum.Declared.{tagOf}
 use types.Run.{OneOf, miss}
 use borrow.Author.Needs.{needs}
-use Rattle.session.specs.declared.Session.{Session}
-use Rattle.session.specs.declared.Stage.{Stage}
-use Rattle.session.specs.declared.Stage.the-variants.{Full, Short, WriteFailed}
+use Rattle.session.specs.declared.held.Session.{Session}
+use Rattle.session.specs.declared.held.Stage.{Stage}
+use Rattle.session.specs.declared.held.Stage.the-variants.{Full, Short, WriteFailed}
 use Rattle.session.specs.Session.{withWaiting, staged}
-use Rattle.session.proofs.Stage.{the-type}
+use Rattle.session.proofs.held.Stage.{the-type}
 use Rattle.console.specs.Turn.{Flushed}
 use Rattle.console.proofs.Laws.{written-bounds, written-none, written-room, written-collected, full-exchanged, short-exchanged, all-written, failed-kept, failed-exchanged, full-not-failed, short-not-failed}
 use Rattle.console.proofs.dialogue.exchange.Statement.{statement}

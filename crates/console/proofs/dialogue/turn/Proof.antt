@@ -4,7 +4,7 @@ use mathlib.Core.Logic.{_⊎_}
 use native.Mathlib.Omega.{arith}
 use denote.Ref.{now}
 use borrow.Author.Needs.{needs}
-use Rattle.session.specs.declared.Stage.the-variants.{Full, Short}
+use Rattle.session.specs.declared.held.Stage.the-variants.{Full, Short}
 use Rattle.console.proofs.Turning.{same-state, same-held, pauses, room-left, turned-bad, turned-on}
 use Rattle.console.proofs.dialogue.turn.Statement.{statement}
 use Rattle.console.proofs.dialogue.turn.Tie as tie

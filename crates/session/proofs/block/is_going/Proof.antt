@@ -5,9 +5,9 @@ use mathlib.Core.List.{[], _∷_}
 use types.Run.{OneOf, miss}
 use denote.Enum.Declared.{tagOf}
 use borrow.Author.Needs.{needs}
-use Rattle.session.specs.declared.Stage.{Stage}
-use Rattle.session.proofs.Stage.{the-type}
-use Rattle.session.specs.declared.Stage.the-variants.{Going, Full, Short, InputEnd, SaidBad, ReadFailed, WriteFailed}
+use Rattle.session.specs.declared.held.Stage.{Stage}
+use Rattle.session.proofs.held.Stage.{the-type}
+use Rattle.session.specs.declared.held.Stage.the-variants.{Going, Full, Short, InputEnd, SaidBad, ReadFailed, WriteFailed}
 use Rattle.session.specs.Session.{isGoing}
 use Rattle.session.proofs.block.is_going.Statement.{statement}
 use Rattle.session.proofs.block.is_going.Tie as tie

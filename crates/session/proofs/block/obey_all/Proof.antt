@@ -6,7 +6,7 @@ use native.Mathlib.Omega.{arith}
 use lib.ListN.{length, take}
 use borrow.Table.Steps.{cases}
 use borrow.Author.Needs.{needs}
-use Rattle.session.specs.declared.Stage.{Stage}
+use Rattle.session.specs.declared.held.Stage.{Stage}
 use Rattle.session.specs.Session.{Held, BlockBounds, SameInput, isGoing, setupOf, stateOf, untaken, Obeyed}
 use Rattle.session.proofs.Laws.{going-only, obeyed-none, obeyed-then}
 use Rattle.session.proofs.block.obey_all.Statement.{statement}

@@ -15,7 +15,7 @@ use Rattle.input.specs.declared.extent.Extent.the-variants.{Whole, Cut, Bad}
 use Rattle.input.proofs.Growth.{WholeCommand, whole-command}
 use Rattle.commands.specs.Commands.{State}
 use Rattle.commands.specs.Program.{Setup, storeProgram}
-use Rattle.session.specs.declared.Stage.the-variants.{Full, Short}
+use Rattle.session.specs.declared.held.Stage.the-variants.{Full, Short}
 use Rattle.session.specs.Session.{setupOf, stateOf, untaken}
 use Rattle.session.proofs.Laws.{category-room, day-type-room, same-extent, command-bytes, bytes-behind, obeyed-none, obeyed-bad, obeyed-one}
 use borrow.Author.Needs.{needs}
