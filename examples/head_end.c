@@ -1,5 +1,5 @@
 /* A head-end on Jihoweka: opens a store, registers meters, receives their days, runs dates, reads,
-   saves the store, loads it again and goes on from there with a late day.
+   fills a hole, saves the store, loads it again and goes on from there with a late day.
 
        head_end DAYS STORE
 
@@ -101,9 +101,9 @@ static const char *name_of(uint64_t number) {
         NAME(ACCEPTED); NAME(SHORT); NAME(CATEGORY_UNKNOWN); NAME(SIZE); NAME(CATEGORY_RECORD);
         NAME(DAY_TYPE); NAME(MPAN); NAME(NOT_REGISTERED); NAME(STORE_FULL); NAME(DATE);
         NAME(START_TOO_EARLY); NAME(SET_HELD); NAME(NINTH_REGISTRATION); NAME(BODY); NAME(NOT_RUN);
-        NAME(RANGE); NAME(REGISTRATION); NAME(NO_PARTNER); NAME(SENDER); NAME(QUANTITY);
-        NAME(DURATION); NAME(END_MINUTE); NAME(DUPLICATE); NAME(DE_ENERGISED); NAME(DISCONNECTED);
-        NAME(ZERO_ESTIMATE); NAME(ABOVE_LIMIT);
+        NAME(RANGE); NAME(REGISTRATION); NAME(NOTHING_TO_FILL); NAME(NO_PARTNER); NAME(SENDER);
+        NAME(QUANTITY); NAME(DURATION); NAME(END_MINUTE); NAME(DUPLICATE); NAME(DE_ENERGISED);
+        NAME(DISCONNECTED); NAME(ZERO_ESTIMATE); NAME(ABOVE_LIMIT);
         default: return "UNKNOWN";
     }
 #undef NAME
@@ -247,6 +247,28 @@ static void print_band(const struct store *s, size_t room) {
     putchar('\n');
 }
 
+/* What each of the missing periods gets of a register's advance in Wh, and the sum of the day. */
+static void print_fill(const struct store *s, uint64_t date, uint64_t category, size_t first,
+                       size_t last, uint32_t advance) {
+    int64_t fields[JIHOWEKA_FIELDS];
+    uint8_t missing[PERIODS] = {0};
+    uint64_t filled[PERIODS], sum = 0;
+    for (size_t j = first; j <= last; j++) missing[j - 1] = 1;
+    uint64_t number = jihoweka_fill(PART(settings), PART(cells), date, category, advance, missing,
+                                    PERIODS, filled, PERIODS, RESULTS);
+    printf("fill of date %" PRIu64 ", category %" PRIu64, date, category);
+    printf(", periods %zu to %zu", first, last);
+    print_kwh(", advance ", advance);
+    printf(": ");
+    if (!accepted(number, fields)) return;
+    for (size_t j = 0; j < PERIODS; j++) {
+        sum += filled[j];
+        if (missing[j]) print_kwh(j + 1 == first ? "" : " ", (int64_t)filled[j]);
+    }
+    print_kwh(" sum ", (int64_t)sum);
+    putchar('\n');
+}
+
 /* ---- the file of days */
 
 /* Takes a number up to `most` and the character behind it; the file's end also ends a line. */
@@ -306,6 +328,8 @@ static void shape_dates(struct store *s) {
     print_net(s, 0, 1, 0); /* of an export category there is none */
     print_band(s, DATES);
     print_band(s, 2);
+    print_fill(s, 4, 0, 17, 24, 13000); /* the second meter sent nothing from 08:00 to 12:00 */
+    print_fill(s, 2, 0, 17, 24, 13000); /* at that time date 2 has no shape */
 }
 
 /* A meter's date 0 comes again. What was copied from it follows once date 0 is run again. */

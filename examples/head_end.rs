@@ -69,6 +69,14 @@ mod c {
             dates: *mut u64, dates_length: usize,
             fields: *mut i64, fields_length: usize,
         ) -> u64;
+        pub fn jihoweka_fill(
+            settings: *const u8, settings_length: usize,
+            cells: *const u64, cells_length: usize,
+            date: u64, category: u64, advance: u32,
+            missing: *const u8, missing_length: usize,
+            filled: *mut u64, filled_length: usize,
+            fields: *mut i64, fields_length: usize,
+        ) -> u64;
     }
 }
 
@@ -278,6 +286,25 @@ impl Store {
         .map(|fields| (&dates[..fields[0] as usize], fields[1]))
     }
 
+    /// The Wh of each period, 0 where `missing` has 0 for it.
+    fn fill(
+        &self, date: u64, category: u64, advance: u32, missing: &[u8],
+    ) -> Result<Vec<u64>, Refusal> {
+        let mut filled = vec![0; self.periods];
+        // SAFETY: both parts and the marks are only read; filled and fields are our own.
+        results(|fields, length| unsafe {
+            c::jihoweka_fill(
+                self.settings.as_ptr(), self.settings.len(),
+                self.cells.as_ptr(), self.cells.len(),
+                date, category, advance,
+                missing.as_ptr(), missing.len(),
+                filled.as_mut_ptr(), filled.len(),
+                fields, length,
+            )
+        })
+        .map(|_| filled)
+    }
+
     // The saved file, as in head_end.c.
 
     fn header(&self) -> Vec<u8> {
@@ -335,6 +362,7 @@ impl fmt::Display for Refusal {
             14 => "NOT_RUN",
             15 => "RANGE",
             16 => "REGISTRATION",
+            17 => "NOTHING_TO_FILL",
             26 => "NO_PARTNER",
             1001 => "SENDER",
             1002 => "QUANTITY",
@@ -487,6 +515,19 @@ fn print_band(store: &Store, room: usize) {
     });
 }
 
+/// What each of the missing periods gets of a register's advance in Wh, and the sum of the day.
+fn print_fill(store: &Store, date: u64, category: u64, first: usize, last: usize, advance: u32) {
+    let mut missing = vec![0; store.periods];
+    missing[first - 1..last].fill(1);
+    let hole = format!("periods {first} to {last}, advance {}", Kwh(advance.into()));
+    let asked = format!("fill of date {date}, category {category}, {hole}");
+    say(asked, store.fill(date, category, advance, &missing), |filled| {
+        let kwh = |wh| Kwh(wh as i64).to_string();
+        let shown: Vec<String> = filled[first - 1..last].iter().map(|&wh| kwh(wh)).collect();
+        format!("{} sum {}", shown.join(" "), kwh(filled.iter().sum::<u64>()))
+    });
+}
+
 /// Takes a number up to `most` and the byte behind it, or the line's end.
 fn take(line: &mut &[u8], most: u64, end: Option<u8>) -> Option<u64> {
     let digits = line.iter().take_while(|byte| byte.is_ascii_digit()).count();
@@ -542,6 +583,8 @@ fn shape_dates(store: &mut Store) {
     print_net(store, 0, 1, false); // of an export category there is none
     print_band(store, DAY_TYPES.len());
     print_band(store, 2);
+    print_fill(store, 4, 0, 17, 24, 13000); // the second meter sent nothing from 08:00 to 12:00
+    print_fill(store, 2, 0, 17, 24, 13000); // at that time date 2 has no shape
 }
 
 /// A meter's date 0 comes again. What was copied from it follows once date 0 is run again.

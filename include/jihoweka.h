@@ -27,8 +27,9 @@
 
    What is promised whatever comes
      Every value of every number is allowed, and is refused where it is out of range, but for a day
-     type that is searched for: of such a one there is no date. (A sender has 16 bits and a limit
-     32, as in the trade's messages: C itself cuts down a wider number, so look at it before.)
+     type that is searched for: of such a one there is no date. (A sender has 16 bits, a limit and
+     an advance have 32, as in the trade's messages: C itself cuts down a wider number, so look at
+     it before.)
      Every content of the parts is allowed too, also parts that were damaged or do not belong
      together: a call then ends, and reads and writes nothing outside its arrays.
 
@@ -76,6 +77,8 @@ enum jihoweka_number {
     JIHOWEKA_RANGE = 15,              /* no such category or period */
     JIHOWEKA_REGISTRATION = 16,       /* minute, category or status, or the minute moves the start
                                          past the last date */
+    JIHOWEKA_NOTHING_TO_FILL = 17,    /* no period is missing, or the values of those that are add
+                                         up to 0 */
     JIHOWEKA_NO_PARTNER = 26,         /* not Smart import, or no export category to net it with */
     JIHOWEKA_SENDER = 1001,           /* not that of the registration in force */
     JIHOWEKA_QUANTITY = 1002,         /* not that of its category */
@@ -257,6 +260,42 @@ uint64_t jihoweka_search_band(
     uint64_t least,
     uint64_t most,
     uint64_t *dates, size_t dates_length,
+    int64_t *fields, size_t fields_length);
+
+/* Shares a register advance among the missing periods of a run date, by the category's shape: each
+   gets the whole part of advance x value / sum of the missing periods' values, and the Wh left over
+   go one each to the largest remainders, the earlier period first among equals. So what is filled
+   adds up to the advance. It becomes no reading: the store stays as it is. Writes the first P
+   entries of `filled`.
+     advance  in Wh; any 32 bits
+     missing  a mark for each period, any but 0 where it is missing; P entries at least, of which
+              the first P count
+     filled   the Wh of each period, 0 where nothing is missing; P entries at least
+   A value counts whatever its cell's flag, and is 0 for 'N'.
+   Results: none. Checks: 1 (of both lists too), 9, 15, 14, 17. */
+uint64_t jihoweka_fill(
+    const uint8_t *settings, size_t settings_length,
+    const uint64_t *cells, size_t cells_length,
+    uint64_t date,
+    uint64_t category,
+    uint32_t advance,
+    const uint8_t *missing, size_t missing_length,
+    uint64_t *filled, size_t filled_length,
+    int64_t *fields, size_t fields_length);
+
+/* The same for a domestic Advanced meter that opted out of half-hours: by the Smart domestic
+   category with this group, quantity and connection, as an opening numbers them; 15 where there is
+   none. Results: none. Checks: 1 (of both lists too), 9, 15, 14, 17. */
+uint64_t jihoweka_fill_opted_out(
+    const uint8_t *settings, size_t settings_length,
+    const uint64_t *cells, size_t cells_length,
+    uint64_t date,
+    uint64_t group,
+    uint64_t quantity,
+    uint64_t connection,
+    uint32_t advance,
+    const uint8_t *missing, size_t missing_length,
+    uint64_t *filled, size_t filled_length,
     int64_t *fields, size_t fields_length);
 
 #ifdef __cplusplus

@@ -19,6 +19,7 @@
 enum {
     METERS = 1024, CATEGORIES = 64, DATES = 800, DURATION = 15, PERIODS = JIHOWEKA_PERIODS(DURATION),
     GROUPS = 14,                                    /* of the family that is netted */
+    LAST = CATEGORIES - 1,                          /* the category of an opted-out meter */
     WEEK = 7, YEAR = 365,
     SET = 1 + PERIODS,                              /* entries of a set in readings */
     ROW = CATEGORIES * PERIODS,                     /* entries of a date in cells */
@@ -77,8 +78,9 @@ static void draw_picks(size_t first_date) {
     }
 }
 
-/* Smart: 14 imports, their exports, the same of another kind; then Advanced. A category has 16
-   meters, so with a de-minimis count of 30 its flag is D. */
+/* Smart: 14 imports, their exports, the same of another kind; then Advanced, and last a Smart
+   domestic one alone in its family. A category has 16 meters, so with a de-minimis count of 30 its
+   flag is D. */
 static void make_categories(void) {
     for (uint8_t c = 0; c < CATEGORIES; c++) {
         uint8_t group = 1 + c % GROUPS, quantity = 1 + c / GROUPS % 2, kind = 1 + c / (2 * GROUPS);
@@ -86,6 +88,8 @@ static void make_categories(void) {
         uint8_t advanced[] = {2, 0, 0, 1 + c / 4 % 2, 1 + c % 4, 0, 0, 5};
         memcpy(category_records[c], c < 4 * GROUPS ? smart : advanced, sizeof smart);
     }
+    uint8_t last[] = {1, GROUPS, 1, 2, 4, 1, 0, 5};
+    memcpy(category_records[LAST], last, sizeof last);
 }
 
 static uint64_t with_check_digit(uint64_t twelve_digits) {
@@ -193,6 +197,23 @@ static void search_band(uint64_t category, uint64_t type, uint64_t least, uint64
         READ_PARTS, category, type, least, most, dates, DATES, FIELDS));
     must_be("dates written by a band search", fields[JIHOWEKA_WRITTEN], due);
     must_be("dates that a band search counts", fields[JIHOWEKA_FOUND], due);
+}
+
+static uint8_t missing[PERIODS];                    /* all */
+static uint64_t filled[PERIODS];
+static uint32_t advances[CATEGORIES];
+static uint64_t last_filled[CATEGORIES];            /* what the last period gets of them */
+
+static void fill(uint64_t date, uint64_t category) {
+    must_accept("number of a fill", jihoweka_fill(
+        READ_PARTS, date, category, advances[category], missing, PERIODS, filled, PERIODS, FIELDS));
+}
+
+static void fill_opted_out(uint64_t date) {
+    const uint8_t *record = category_records[LAST];
+    must_accept("number of an opted-out meter's fill", jihoweka_fill_opted_out(
+        READ_PARTS, date, record[1], record[3], record[4], advances[LAST], missing, PERIODS,
+        filled, PERIODS, FIELDS));
 }
 
 /* ---- the copies, to and from places that docs/STORE.md gives; by pointers that the compiler does
@@ -372,6 +393,53 @@ static void other_type_copy(size_t i) {
     copy_out(store.settings + store.settings_length - DATES, DATES);
 }
 
+/* All dates are still alike. TOT less 1 is the advance that leaves most Wh over, PERIODS - 1: each
+   period's whole part is 1 less than its value. */
+static void choose_advances(void) {
+    memset(missing, 1, sizeof missing);
+    for (size_t c = 0; c < CATEGORIES; c++) {
+        int64_t sum = 0;
+        read_totals(DATES - 1, c);
+        advances[c] = (uint32_t)fields[JIHOWEKA_TOT] - 1;
+        fill(DATES - 1, c);
+        for (size_t j = 0; j < PERIODS; j++) sum += (int64_t)filled[j];
+        must_be("sum of a fill", sum, advances[c]);
+        last_filled[c] = filled[PERIODS - 1];
+    }
+}
+static void must_be_last(uint64_t category) {
+    must_be("last of a fill", (int64_t)filled[PERIODS - 1], (int64_t)last_filled[category]);
+}
+static void fill_day(size_t i) {
+    fill(picks[i].date, picks[i].category);
+    must_be_last(picks[i].category);
+}
+static void fill_day_copy(size_t i) {
+    copy_out(missing, PERIODS);
+    copy_columns(picks[i].date, 1, picks[i].category);
+}
+
+/* All values alike, and of 32 bits: no threshold parts the remainders, so the search is longest. */
+static void level_cells(void) {
+    for (size_t i = 0; i < store.cells_length; i++)
+        store.cells[i] = 1 + 8 + ((uint64_t)UINT32_MAX << 32);      /* flag A, of one reading */
+    for (size_t c = 0; c < CATEGORIES; c++) {
+        advances[c] = PERIODS - 1;
+        last_filled[c] = 0;
+    }
+}
+
+static void fill_last(size_t i) {
+    fill_opted_out(picks[i].date);
+    must_be_last(LAST);
+}
+static void fill_last_copy(size_t i) {
+    copy_out(store.settings + store.settings_length - DATES - sizeof category_records,
+             sizeof category_records);
+    copy_out(missing, PERIODS);
+    copy_columns(picks[i].date, 1, LAST);
+}
+
 struct row {
     const char *call, *touched;
     size_t calls, first_date;               /* of a round; picks have no earlier date */
@@ -414,6 +482,13 @@ static const struct row rows[] = {
      NULL, NULL, band_of_none, band_copy},
     {"band search, no date has the day type", "800 B of settings", 2000, 0,
      NULL, NULL, other_type, other_type_copy},
+    {"fill, all 96 periods missing, 95 Wh left over", "96 B of marks, 768 B of cells", 10000, 0,
+     choose_advances, NULL, fill_day, fill_day_copy},
+    {"fill of an opted-out meter, its category the last of 64",
+     "512 B of settings, 96 B of marks, 768 B of cells", 10000, 0,
+     NULL, NULL, fill_last, fill_last_copy},
+    {"fill, the longest search: 96 values of 2^32 - 1", "96 B of marks, 768 B of cells", 10000, 0,
+     level_cells, NULL, fill_day, fill_day_copy},
 };
 
 /* ---- rounds, and the table */

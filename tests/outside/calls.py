@@ -19,7 +19,7 @@ import struct
 import sys
 from collections import Counter
 
-from ledger import DAY, EXPORT, IMPORT, Category, Ledger, Registration, opening
+from ledger import BLANK, DAY, EXPORT, IMPORT, Category, Ledger, Registration, opening
 from library import (ARRAYS, BITS, CALLS, FIELDS, HEADER, PARTS, WIDTHS, Difference, Library,
                      Store, described, sizes_of, to_be_reached)
 from streams import TOP, category_bytes, valid_mpan
@@ -29,7 +29,7 @@ ENOUGH = 20_000                            # calls that reach every number
 LONGEST = 100_000                          # entries of an array; a longer one is not lent here
 # How often each call is made once the first meters are registered.
 TURNS = {'opening': 1, 'registration': 10, 'reception': 26, 'run': 15, 'totals': 12, 'cell': 12,
-         'net': 12, 'band': 12}
+         'net': 12, 'band': 12, 'fill': 12, 'fill_opted_out': 12}
 
 
 class Caller:
@@ -201,7 +201,8 @@ class Caller:
                 continue
             near = {'date': aims.dates, 'category': len(aims.categories), 'mpan': 10 ** 13,
                     'period': aims.periods + 1, 'minute': DAY, 'status': 4, 'meter_count': 1025,
-                    'day_type': 17, 'duration': 45 - good, 'quantity': 3 - good}
+                    'day_type': 17, 'duration': 45 - good, 'quantity': 3 - good, 'group': 15,
+                    'connection': 5}
             number = rng.choice((0, near.get(argument, good + 1), near.get(argument, good + 1),
                                  good ^ 1, good + 2 ** 8, good + 2 ** 16, good + 2 ** 32,
                                  good + 2 ** 63, 2 ** 16, 2 ** 32, 2 ** 63, 2 ** 64 - 1,
@@ -347,6 +348,39 @@ class Caller:
             least, most = min(least, most), max(least, most)
         day_type = rng.choice(aims.day_types) if self.chance(0.9) else rng.randint(0, 17)
         return [category, day_type, least, most]
+
+    def shape_to_fill(self):
+        """Date and category, mostly with a value that is not 0."""
+        shaped = [[date, number] for date, rows in self.aims.cells.items()
+                  for number, row in enumerate(rows) if any(cell.value for cell in row)]
+        return self.rng.choice(shaped) if shaped and self.chance(0.8) else self.totals()
+
+    def hole(self, date, category):
+        """An advance, and marks of some periods, all, one, none, or all whose value is 0."""
+        rng, aims = self.rng, self.aims
+        row = aims.cells[date][category] if date in aims.cells else [BLANK] * aims.periods
+        day, tot = range(1, aims.periods + 1), sum(cell.value for cell in row)
+        missing = rng.choice((day, rng.sample(day, rng.randint(2, aims.periods)), self.periods,
+                              rng.sample(self.periods, 2), [rng.choice(self.periods)], (),
+                              [j for j in day if row[j - 1].value == 0]))
+        marks = [rng.choice((1, 1, 2, 128, 255)) if j in missing or j > aims.periods else 0
+                 for j in range(1, self.length('missing') + 1)]
+        advance = rng.choice((0, 1, 2, 3, 1000, max(0, tot - 1), TOP, rng.randint(0, TOP)))
+        return [min(advance, TOP), bytes(marks)]
+
+    def fill(self):
+        date, category = self.shape_to_fill()
+        return [date, category, *self.hole(date, category)]
+
+    def fill_opted_out(self):
+        """By those three of a category, Smart domestic or not, sometimes with one replaced."""
+        rng, (date, category) = self.rng, self.shape_to_fill()
+        _, group, _, quantity, connection, *_ = self.aims.categories[category]
+        three = [group, quantity, connection]
+        if self.chance(0.3):
+            at = rng.choice((0, 0, 1, 2))
+            three[at] = rng.choice((0, 1, 2, 15, 2 ** 16, three[at] + 2 ** 8, three[at] + 2 ** 32))
+        return [date, *three, *self.hole(date, category)]
 
 
 def replay_lists(options, note):

@@ -87,6 +87,8 @@ class Example:
             yield self.net(*net)
         yield self.band(6)
         yield self.band(2)
+        yield self.fill(4, 0, 17, 24, 13000)
+        yield self.fill(2, 0, 17, 24, 13000)  # no shape there
         yield f'save: {saved_size()} bytes'
         yield f'load: {saved_size()} bytes'
         # A late day for date 0: copies stand until it is run again, then they follow.
@@ -154,6 +156,15 @@ class Example:
             return ' '.join(map(str, (written, 'of', f'{there_are}:', *dates)))
         return line(f'band with room for {room}',
                     self.ledger.band(0, 1, 63652, 69122, room), words)
+
+    def fill(self, date, category, first, last, advance):
+        """The periods of the hole and their sum, which is the advance."""
+        def words(filled):
+            return ' '.join((*map(kwh, filled[first - 1:last]), 'sum', kwh(advance)))
+        missing = [first <= period <= last for period in range(1, PERIODS + 1)]
+        return line(f'fill of date {date}, category {category}, periods {first} to {last}, '
+                    f'advance {kwh(advance)}',
+                    self.ledger.fill(date, category, advance, missing, PERIODS), words)
 
 
 def first_calls():

@@ -21,11 +21,11 @@ HEADER = '>4H'                             # of the settings: duration, meters, 
 
 # Each array that a call may be lent, with the struct letter of its entries.
 ARRAYS = {'settings': 'B', 'meters': 'Q', 'readings': 'Q', 'cells': 'Q',
-          'category_records': 'B', 'day_types': 'B', 'body': 'B',
-          'numbers': 'q', 'marks': 'B', 'dates': 'Q', 'fields': 'q'}
+          'category_records': 'B', 'day_types': 'B', 'body': 'B', 'missing': 'B',
+          'numbers': 'q', 'marks': 'B', 'dates': 'Q', 'filled': 'Q', 'fields': 'q'}
 WIDTHS = {name: struct.calcsize(letter) for name, letter in ARRAYS.items()}
 PARTS = ('settings', 'meters', 'readings', 'cells')
-BITS = {'sender': 16, 'limit': 32}         # of a number; all others have 64
+BITS = {'sender': 16, 'limit': 32, 'advance': 32}      # of a number; all others have 64
 
 
 class Call(NamedTuple):
@@ -68,6 +68,11 @@ CALLS = {
                 'numbers marks', 2, 1, 9, 15, 26, 14),
     'band': call('jihoweka_search_band', 'settings cells', '', 'category day_type least most',
                  'dates', 2, 1, 15),
+    'fill': call('jihoweka_fill', 'settings cells', '', 'date category advance missing', 'filled',
+                 0, 1, 9, 15, 14, 17),
+    'fill_opted_out': call('jihoweka_fill_opted_out', 'settings cells', '',
+                           'date group quantity connection advance missing', 'filled',
+                           0, 1, 9, 15, 14, 17),
 }
 FOR_ARGUMENTS = (1, 9, 6, 16, 15)          # checks that any store answers alike
 OF_RECORDS = (1005, 1006, 1008, 1009, 1011, 1012)      # with a place always, 13 with one or none
@@ -195,8 +200,9 @@ def sizes_kept(settings):
 
 
 def short(given, sizes):
-    """Whether a part, or a list for the results of a net, has fewer entries than it must."""
-    least = {**sizes.least(), 'numbers': sizes.periods, 'marks': sizes.periods}
+    """Whether a part, or a list that has to hold a day, has fewer entries than it must."""
+    least = {**sizes.least(),
+             **dict.fromkeys(('numbers', 'marks', 'missing', 'filled'), sizes.periods)}
     return any(len(given[array]) < WIDTHS[array] * least[array] for array in least.keys() & given)
 
 
@@ -214,7 +220,7 @@ class Store:
         self.parts, self.ledger, self.sizes = parts, None, sizes_kept(parts['settings'])
 
     def call(self, name, given, null):
-        """Makes the call, and tests all that comes of it."""
+        """Makes the call, tests all that comes of it, and gives the answer."""
         expected = self.expected(name, given)
         number, after = self.library.call(name, given, null)
         came = self.heard(name, number, after)
@@ -226,6 +232,7 @@ class Store:
         if number == 0:
             self.parts.update((part, after[part]) for part in CALLS[name].parts)
         self.count(name, given, came, expected)
+        return came
 
     def expected(self, name, given):
         """The answer that must come; None if it hangs on what the ledger does not know."""
@@ -288,14 +295,17 @@ class Store:
         places = {0} if number not in OF_RECORDS else range(1, records + 1)
         if number == 13:
             places = range(records + 1)
-        possible = (number in (0, *CALLS[name].checks) and number not in FOR_ARGUMENTS
-                    and place in places)
+        possible = (number in (0, *CALLS[name].checks) and place in places
+                    and (number not in FOR_ARGUMENTS or (name, number) == ('fill_opted_out', 15)))
         if number == 0 and name == 'cell':
             possible &= came[1] in map(ord, 'ADEN')
         if number == 0 and name == 'net':
             possible &= set(came[4]) <= {0, 1}
         if number == 0 and name == 'band':
             possible &= came[1] == min(came[2], len(given['dates']) // WIDTHS['dates'])
+        if number == 0 and 'advance' in given:
+            marked = [wh for wh, mark in zip(came[1], given['missing']) if mark]
+            possible &= sum(marked) == sum(came[1]) == given['advance']
         if not possible:
             raise Difference(f'came {came}, which cannot be')
 

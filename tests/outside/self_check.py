@@ -6,22 +6,23 @@ First hand-made inputs for the forms of commands. Then a second, slower
 calculation: each cell straight from the list of accepted calls by the rules in
 the order the paper gives them, moved by comparing every cell of every date,
 totals by minutes and fractions, nets by adding each cell with its sign, bands by
-adding each date's cells. Then known slips: the ledger's text is changed in one
-place, and some stream, or for nets and bands some random store, must hear the
-difference.
+adding each date's cells, fills by whole numbers, one Wh after the other. Then
+known slips: the ledger's text is changed in one place, and some stream, or for
+nets, bands and fills some random store, must hear the difference.
 """
 
 import random
 import sys
 from fractions import Fraction
 from functools import lru_cache
+from itertools import product
 from math import floor
 from pathlib import Path
 from types import ModuleType
 
 import ledger
 import program
-from streams import stream, valid_mpan
+from streams import TOP, stream, valid_mpan
 from worked_example import reading
 
 
@@ -183,6 +184,34 @@ class Doubled(ledger.Ledger):
         Doubled.checked += 1
         return answer
 
+    def fill(self, date, category, advance, missing, filled):
+        answer = super().fill(date, category, advance, missing, filled)
+        if answer[0] != 'ok' and answer[1] != 17:
+            return answer
+        cells = self.all_cells(len(self.calls))
+        values = {period: cells[date, category, period][1]
+                  for period in range(1, self.periods + 1) if missing[period - 1] != 0}
+        total, gets, rests = sum(values.values()), [0] * self.periods, {}
+        if total:
+            for period, value in values.items():
+                gets[period - 1], rests[period] = divmod(advance * value, total)
+            while sum(gets) < advance:     # no period is given two
+                first = min(rests, key=lambda period: (-rests[period], period))
+                gets[first - 1] += 1
+                del rests[first]
+        assert answer == (('ok', gets) if total else ('no', 17, 0))
+        Doubled.checked += 1
+        return answer
+
+    def fill_opted_out(self, date, *asked):
+        answer = super().fill_opted_out(date, *asked)
+        alike = [self.fill(date, number, *asked[3:]) for number, other in enumerate(self.categories)
+                 if other.segment == other.domestic == 1
+                 and (other.group, other.quantity, other.connection) == asked[:3]]
+        assert alike == [answer] or not alike and answer[1] in (1, 9, 15)
+        Doubled.checked += 1
+        return answer
+
 
 def doubled(plain):
     return Doubled(plain.duration, plain.meters, plain.categories, plain.day_types)
@@ -218,7 +247,7 @@ KEYS = [(1, 1, 1, 1, 1), (1, 1, 1, 2, 1), (1, 2, 1, 1, 1), (1, 2, 1, 2, 1), (1, 
         (2, 0, 0, 1, 1), (2, 0, 0, 2, 1)]
 
 
-def small_store(opening, rng):
+def small_store(opening, rng, limit=1000):
     """A store of nine dates, seven of them run, with a meter for each of six categories."""
     categories = [(*key, rng.randrange(3) if key[0] == 1 else 0, 0, rng.choice((0, 1, 1, 2)))
                   for key in rng.sample(KEYS, 6)]
@@ -227,9 +256,9 @@ def small_store(opening, rng):
                     [rng.choice((1, 1, 2)) for _ in range(dates)])
     for number, category in enumerate(categories):
         mpan = valid_mpan(number + 1)
-        store.registration(mpan, 0, 0, number, 7, 1, 1000)
+        store.registration(mpan, 0, 0, number, 7, 1, limit)
         for date in rng.sample(range(dates), 3):
-            body = b''.join(reading(30 * period, rng.randrange(1000), rng.choice((1, 1, 8)))
+            body = b''.join(reading(30 * period, rng.randrange(limit), rng.choice((1, 1, 8)))
                             for period in rng.sample((1, 2, 3, 47, 48), 3))
             store.reception(7, mpan, date, 30, category[3], body)
     for date in rng.sample(range(dates), dates - 2):
@@ -268,11 +297,30 @@ def band_answers(opening, seed):
     return answers
 
 
+def fill_answers(opening, seed):
+    """Fills of a small random store, of values that are small, middling or of any size."""
+    rng = random.Random(seed)
+    store = small_store(opening, rng, rng.choice((3, 1000, TOP)))
+    answers = []
+    for date in 2 * [*range(store.dates + 1)]:
+        # Mostly of periods that have readings; the marks and the list are 48, sometimes 47 long.
+        chosen = rng.choice(((), range(48), rng.sample((0, 1, 2, 46, 47), rng.randint(1, 5))))
+        marks = bytes(rng.choice((1, 2, 255)) if j in chosen else 0
+                      for j in range(rng.choice((48, 48, 48, 48, 47))))
+        hole = (rng.choice((0, 1, 2, 3, 1000, rng.randint(0, TOP), TOP)), marks,
+                rng.choice((48, 48, 48, 48, 47)))
+        answers += [store.fill(date, category, *hole)
+                    for category in range(len(store.categories) + 1)]
+        answers += [store.fill_opted_out(date, *three, *hole)
+                    for three in product((0, 1, 2, 3, 4, 15), (1, 2), (1, 2))]
+    return answers
+
+
 def check_twice(streams, commands, stores):
     for seed in range(streams):
         list(Doubling(stream(seed, 'small', commands), program.PROFILES['small']).answers())
     for seed in range(stores):
-        for answers in net_answers, band_answers:
+        for answers in net_answers, band_answers, fill_answers:
             answers(lambda *given: doubled(ledger.opening(*given)), seed)
     return Doubled.checked
 
@@ -429,6 +477,58 @@ BAND_SLIPS = [
      '        if least > most:\n            return "ok", 0, 0, []\n        # No'),
 ]
 
+# And for fills.
+FILL_SLIPS = [
+    ('gives the later one of equals its Wh first', 'lambda j: wholes[j] - shares[j])',
+     'lambda j: (wholes[j] - shares[j], -j))'),
+    ('gives the smallest remainder its Wh first', 'lambda j: wholes[j] - shares[j])',
+     'lambda j: shares[j] - wholes[j] or 1)'),
+    ('gives the largest value its Wh first', 'lambda j: wholes[j] - shares[j])',
+     'lambda j: -shares[j])'),
+    ('gives the earliest periods theirs first', 'lambda j: wholes[j] - shares[j])',
+     'lambda j: wholes[j] == shares[j])'),
+    ('drops what is left over', 'order[:advance - sum(wholes)]', 'order[:0]'),
+    ('leaves all that is left over to one period',
+     'for j in order[:advance - sum(wholes)]:\n            wholes[j] += 1',
+     'wholes[order[0]] += advance - sum(wholes)'),
+    ('rounds', 'floor(share) for share in shares', 'round(share) for share in shares'),
+    ('has unmarked periods in the sum', 'value, sum(shape)) for',
+     'value, sum(cell.value for cell in self.cells[date][category])) for'),
+    ('fills all periods', 'cell.value if mark else 0\n', 'cell.value\n'),
+    ('takes no mark but 1', 'cell.value if mark else', 'cell.value if mark == 1 else'),
+    ('shapes by fresh cells only', 'cell.value if mark else',
+     'cell.value if mark and cell.flag in "AD" else'),
+    ('shares evenly where there is no shape', 'return no(17)',
+     'shape = [int(mark > 0) for mark in missing]\n            if not any(shape): return no(17)'),
+    ('finds fault with one period without a value', 'if sum(shape) == 0:',
+     'if not all(v for v, mark in zip(shape, missing) if mark) or not any(shape):'),
+    ('finds nothing to fill in an advance of 0', 'if sum(shape) == 0:',
+     'if advance * sum(shape) == 0:'),
+    ('finds no mark before a date not run', 'return no(14)\n        # Whatever',
+     'return no(14 if any(missing) else 17)\n        # Whatever'),
+    ('finds a date not run before a category that is absent',
+     'if category >= len(self.categories):\n            return no(15)\n'
+     '        if date not in self.pictures:\n            return no(14)\n        # Whatever',
+     'if date not in self.pictures:\n            return no(14)\n'
+     '        if category >= len(self.categories):\n            return no(15)\n        # Whatever'),
+    ('finds no fault with short marks', 'len(missing) < self.periods or filled', 'filled'),
+    ('finds no fault with a short list', ' or filled < self.periods', ''),
+    ('takes Advanced for an opted-out meter', 'key = SMART, group, DOMESTIC,',
+     'key = ADVANCED, 0, 0,'),
+    ('takes Advanced where there is no Smart one', 'if category.key == key]',
+     'if category.key == key] or [number for number, category in enumerate(self.categories)\n'
+     '                   if category.key == (ADVANCED, 0, 0, quantity, connection)]'),
+    ('takes one that is not domestic', 'group, DOMESTIC, quantity', 'group, 2, quantity'),
+    ('takes domestic or not', 'if category.key == key]',
+     'if category.key[:2] + category.key[3:] == key[:2] + key[3:]]'),
+    ('takes any group', 'if category.key == key]',
+     'if category.key[0] == 1 and category.key[2:] == key[2:]]'),
+    ('takes import for export', 'DOMESTIC, quantity, connection\n', 'DOMESTIC, 1, connection\n'),
+    ('takes any connection', 'if category.key == key]', 'if category.key[:4] == key[:4]]'),
+    ('finds no category before a date past the last', 'return self.fill(date, fitting',
+     'if not fitting: return no(15)\n        return self.fill(date, fitting'),
+]
+
 
 def changed_program(old, new):
     """The command program on the ledger with one place of its text changed."""
@@ -474,7 +574,9 @@ def main():
              and heard_each(NET_SLIPS, 'store',
                             lambda program, seed: net_answers(program.opening, seed))
              and heard_each(BAND_SLIPS, 'store',
-                            lambda program, seed: band_answers(program.opening, seed)))
+                            lambda program, seed: band_answers(program.opening, seed))
+             and heard_each(FILL_SLIPS, 'store',
+                            lambda program, seed: fill_answers(program.opening, seed)))
     return 0 if heard else 1
 
 

@@ -12,11 +12,11 @@ use lib.Seq.{take-length, drop-length}
 use borrow.Table.Steps.{cases}
 use borrow.Author.Tests.{lt-ltb, eqb-true, eqb-false, ne-eqb}
 use Rattle.ledger.specs.Sizes.{headerLength, settingsLength}
-use Rattle.ledger.specs.Checks.{Verdict, orElse, firstNumber, callNumber, registrationCheck, receptionCheck, runCheck, readCheck, netCheck, bandCheck}
-use Rattle.ledger.specs.Ledger.{Ledger, start, Call, register, receive, run, readTotals, readCell, readNet, searchBand, refused, answer, accepted, left, settingsShort, metersShort, anyShort, Lengths, ledgerAnswer, ledgerAfter, Opening}
+use Rattle.ledger.specs.Checks.{Verdict, orElse, firstNumber, callNumber, registrationCheck, receptionCheck, runCheck, readCheck, netCheck, bandCheck, fillCheck}
+use Rattle.ledger.specs.Ledger.{Ledger, start, Call, register, receive, run, readTotals, readCell, readNet, searchBand, fillHole, refused, answer, accepted, left, settingsShort, metersShort, anyShort, Lengths, ledgerAnswer, ledgerAfter, Opening}
 use Rattle.ledger.specs.Store.{word, metersOf, settingsReady}
 use Rattle.ledger.specs.Ready.{ready, header-there}
-use Rattle.ledger.specs.Calls.{metersUnready, runUnready, cellsUnready, openingVerdict, registrationVerdict, receptionVerdict, runVerdict, totalsVerdict, cellVerdict, netVerdict, bandVerdict}
+use Rattle.ledger.specs.Calls.{metersUnready, runUnready, cellsUnready, openingVerdict, registrationVerdict, receptionVerdict, runVerdict, totalsVerdict, cellVerdict, netVerdict, bandVerdict, fillVerdict}
 use Rattle.ledger.specs.Engine.{Parts, callAnswer, leaves, openedParts, afterOpening, cut, restored, partsAfter, cutLengths, lengthsOf, AreBytes, BodyOfBytes}
 use Rattle.ledger.proofs.Verdicts.{left-some}
 use Rattle.ledger.proofs.Open.{opening-accepted}
@@ -37,7 +37,7 @@ use Rattle.conversation.proofs.Simulation.{Simulates, same-output}
 module _ (p : Parts) (unready : settingsReady (p .settings) ≡ false) where
   -- a call on settings that are not ready answers 1
   unready-answer : (c : Call) → callAnswer p c ≡ refused 1 0
-  unfolding callAnswer answer metersUnready runUnready cellsUnready registrationVerdict receptionVerdict runVerdict totalsVerdict cellVerdict netVerdict bandVerdict registrationCheck receptionCheck runCheck readCheck netCheck bandCheck callNumber firstNumber orElse
+  unfolding callAnswer answer metersUnready runUnready cellsUnready registrationVerdict receptionVerdict runVerdict totalsVerdict cellVerdict netVerdict bandVerdict fillVerdict registrationCheck receptionCheck runCheck readCheck netCheck bandCheck fillCheck callNumber firstNumber orElse
   unready-answer (register a) = rw unready
   unready-answer (receive a) = rw unready
   unready-answer (run d) = rw unready
@@ -45,6 +45,7 @@ module _ (p : Parts) (unready : settingsReady (p .settings) ≡ false) where
   unready-answer (readCell d c j) = rw unready
   unready-answer (readNet a) = rw unready
   unready-answer (searchBand a) = rw unready
+  unready-answer (fillHole a) = rw unready
 
   -- and changes nothing
   unready-leaves : (c : Call) → leaves p c ≡ p
@@ -56,6 +57,7 @@ module _ (p : Parts) (unready : settingsReady (p .settings) ≡ false) where
   unready-leaves (readCell d c j) = refl
   unready-leaves (readNet a) = refl
   unready-leaves (searchBand a) = refl
+  unready-leaves (fillHole a) = refl
 
 -- ---- what the plain program keeps, and the parts
 

@@ -3,6 +3,8 @@ pub use band::search_band;
 pub use entries::cell::Cell;
 pub use entries::cell::Flag;
 pub use entries::cell::letter;
+pub use fill::fill;
+pub use fill::fill_opted_out;
 pub use net::read_net;
 pub use opening::open;
 pub use reads::read_cell;

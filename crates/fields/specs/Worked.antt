@@ -1,10 +1,10 @@
--- Answers as numbers, worked out by hand: those of the scope paper's example, a refusal with a place, totals that all differ, cells, a net
--- and a band.
+-- Answers as numbers, worked out by hand: those of the scope paper's example, a refusal with a place, totals that all differ, cells, a net,
+-- a band and a fill.
 use mathlib.Core.Path.{_≡_, refl}
 use mathlib.Core.List.{[], _∷_, map}
 use lib.IntN.{pos, negsuc}
 use Rattle.ledger.specs.Method.{E, N}
-use Rattle.ledger.specs.Ledger.{refused, totalsAre, cellIs, netIs, bandIs}
+use Rattle.ledger.specs.Ledger.{refused, totalsAre, cellIs, netIs, bandIs, filledAre}
 use Rattle.ledger.specs.Marked.{exampleAnswers}
 use Rattle.fields.specs.Fields.{numberOf, fieldsOf}
 
@@ -27,4 +27,6 @@ pub worked-fields :
     × (fieldsOf (cellIs (record { flag = N; value = 0; count = 0; origin = 65535 })) ≡ pos 78 ∷ pos 0 ∷ pos 0 ∷ pos 65535 ∷ [])
     × (fieldsOf (netIs (record { tot = negsuc 9; tot7 = pos 50; periods = []; marks = [] })) ≡ negsuc 9 ∷ pos 50 ∷ [])
     × (fieldsOf (bandIs (record { written = 2; found = 3; dates = 0 ∷ 2 ∷ [] })) ≡ pos 2 ∷ pos 3 ∷ [])
-worked-fields = (refl, refl, refl, refl, refl, refl, refl, refl, refl)
+    × (numberOf (filledAre (46 ∷ 27 ∷ 27 ∷ 0 ∷ [])) ≡ 0)
+    × (fieldsOf (filledAre (46 ∷ 27 ∷ 27 ∷ 0 ∷ [])) ≡ [])
+worked-fields = (refl, refl, refl, refl, refl, refl, refl, refl, refl, refl, refl)

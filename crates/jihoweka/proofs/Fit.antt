@@ -20,20 +20,24 @@ use Rattle.ledger.specs.Opening.{Opening, categories, dates}
 use Rattle.ledger.specs.Table.{tabulate}
 use Rattle.ledger.specs.Checks.{Registration, RegistrationCall, ReceptionCall, Verdict, firstFailed, orElse, sizesValid, openingCheck, bodyCheck, inForceCheck, receptionCheck, runCheck, readCheck, bandCheck, NetCall}
 use Rattle.ledger.specs.Band.{BandCall, bandOn, bandDates}
-use Rattle.ledger.specs.Ledger.{Answer, answer, accepted, moved, totalsAre, cellIs, netIs, bandIs}
+use Rattle.ledger.specs.Fill.{FillCall}
+use Rattle.ledger.specs.Ledger.{Answer, answer, accepted, moved, totalsAre, cellIs, netIs, bandIs, filledAre}
 use Rattle.ledger.specs.Store.{categoriesOf, datesOf, periodsOf, rowLength, dayTypeOf, settingsReady, readingsReady, cellsReady, cellOfEntry, cellIndex, isRunAt}
-use Rattle.ledger.specs.Calls.{Placing, putRow, openingVerdict, registrationVerdict, receptionVerdict, runUnready, runVerdict, rowAt, carriedEntry, comparedEntry, differing, follows, movedInRow, movedByRow, followRow, inheritedAfter, carryOn, settled, newRow, ranFrom, cellsUnready, totalsVerdict, cellVerdict, cellFor, totalsFor, netVerdict, netFor, bandVerdict, bandFor}
+use Rattle.ledger.specs.Calls.{Placing, putRow, openingVerdict, registrationVerdict, receptionVerdict, runUnready, runVerdict, rowAt, carriedEntry, comparedEntry, differing, follows, movedInRow, movedByRow, followRow, inheritedAfter, carryOn, settled, newRow, ranFrom, cellsUnready, totalsVerdict, cellVerdict, cellFor, totalsFor, netVerdict, netFor, bandVerdict, bandFor, fillVerdict, fillFor}
 use Rattle.ledger.specs.Ready.{Ready, ready, periods-bound, row-bounds}
 use Rattle.ledger.proofs.Open.{sizes-valid}
 use Rattle.ledger.proofs.Choices.{check-passed}
 use Rattle.ledger.proofs.Chosen.{chosen-few}
 use Rattle.entries.proofs.RowLaws.{sumBelow-most, differing-le}
+use Rattle.store.specs.declared.outcome.Outcome.{Outcome}
+use Rattle.store.specs.declared.outcome.Outcome.the-variants as outcome
 use Rattle.store.specs.declared.outcome.NetOutcome.{NetOutcome}
 use Rattle.store.specs.declared.outcome.NetOutcome.the-variants as net
 use Rattle.store.specs.declared.outcome.BandOutcome.{BandOutcome}
 use Rattle.store.specs.declared.outcome.BandOutcome.the-variants as band
-use Rattle.store.specs.Outcome.{netAnswer, bandAnswer}
-use Rattle.fields.specs.Fields.{Fits, FieldsFit}
+use Rattle.store.specs.Outcome.{answerOf, netAnswer, bandAnswer, fillAnswer}
+use Rattle.fields.specs.declared.numbers.Numbers.{Numbers}
+use Rattle.fields.specs.Fields.{Fits, FieldsFit, AsNumbers}
 
 -- ---- an answer
 
@@ -256,6 +260,10 @@ pub net-fits : (S C : List ℕ) (a : NetCall) → FieldsFit (answer (netVerdict 
 unfolding netVerdict
 net-fits S C a = answer-fits (netVerdict S C a) (netIs (netFor S C a)) (omega arith) (λ e. tt)
 
+pub fill-fits : (S C : List ℕ) (a : FillCall) → FieldsFit (answer (fillVerdict S C a) (filledAre (fillFor S C a)))
+unfolding fillVerdict
+fill-fits S C a = answer-fits (fillVerdict S C a) (filledAre (fillFor S C a)) (omega arith) (λ e. tt)
+
 -- ---- what fits with some lists for results fits with any
 
 pub any-lists : (r : NetOutcome) (P : ℕ) (numbers : List ℤ) (marks : List ℕ) {given : Answer} → netAnswer P r numbers marks ≡ given → FieldsFit given →
@@ -266,3 +274,12 @@ any-lists (net.Refused number place) P numbers marks e fit P′ numbers′ marks
 pub any-dates : (r : BandOutcome) (dates : List ℕ) {given : Answer} → bandAnswer r dates ≡ given → FieldsFit given → (dates′ : List ℕ) → FieldsFit (bandAnswer r dates′)
 any-dates (band.Band b) dates e fit dates′ = rw (← e) at fit
 any-dates (band.Refused number place) dates e fit dates′ = rw (← e) at fit
+
+-- a fill's outcome names no values
+pub no-values : (r : Outcome) (P : ℕ) (filled : List ℕ) {given : Answer} → fillAnswer P r filled ≡ given → FieldsFit given → FieldsFit (answerOf r)
+no-values outcome.Accepted P filled e fit = tt
+no-values (outcome.Refused number place) P filled e fit = rw (← e) at fit
+
+pub values-apart : (r : Outcome) (P : ℕ) (filled : List ℕ) {numbers : Numbers} → AsNumbers (answerOf r) numbers → AsNumbers (fillAnswer P r filled) numbers
+values-apart outcome.Accepted P filled a = record { number-is = a .number-is; fields-are = a .fields-are; few = a .few; long = a .long }
+values-apart (outcome.Refused number place) P filled a = a

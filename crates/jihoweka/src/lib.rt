@@ -11,12 +11,14 @@ use fields::numbers::put_fields;
 ghost use mathlib.Core.Path.{_≡_};
 ghost use mathlib.Core.Bool.{not};
 ghost use lib.Dec.{eqb};
-ghost use Rattle.ledger.specs.Ledger.{answer, accepted, moved, totalsAre, cellIs, netIs, bandIs, left};
-ghost use Rattle.ledger.specs.Calls.{openingVerdict, registrationVerdict, registeredMeters, receptionVerdict, receivedReadings, runVerdict, ranFrom, totalsVerdict, totalsFor, cellVerdict, cellFor, netVerdict, netFor, bandVerdict, bandFor, overwritten};
+ghost use Rattle.ledger.specs.Ledger.{answer, accepted, moved, totalsAre, cellIs, netIs, bandIs, filledAre, left};
+ghost use Rattle.ledger.specs.Fill.{ofCategory, ofOptedOut};
+ghost use Rattle.ledger.specs.Calls.{openingVerdict, registrationVerdict, registeredMeters, receptionVerdict, receivedReadings, runVerdict, ranFrom, totalsVerdict, totalsFor, cellVerdict, cellFor, netVerdict, netFor, bandVerdict, bandFor, fillVerdict, fillFor, overwritten};
 ghost use Rattle.registration.specs.Registration.{registrationCall};
 ghost use Rattle.reception.specs.Reception.{receptionCall};
 ghost use Rattle.net.specs.Asked.{netCall};
 ghost use Rattle.band.specs.Search.{bandCall};
+ghost use Rattle.fill.specs.Asked.{fillCall};
 ghost use Rattle.fields.specs.Fields.{Returned, unlessShort, OpeningLeaves};
 
 // How many entries the list has at least: the most fields that an answer has.
@@ -230,4 +232,58 @@ pub extern "C" fn jihoweka_search_band(
     }
     let outcome = engine::search_band(settings, cells, category, day_type, least, most, dates);
     put_fields(fields, of_band(outcome))
+}
+
+#[no_mangle]
+pub extern "C" fn jihoweka_fill(
+    settings: &[u8],
+    cells: &[u64],
+    date: u64,
+    category: u64,
+    advance: u32,
+    missing: &[u8],
+    filled: &mut [u64],
+    fields: &mut [i64],
+) -> u64
+    ensures answers { λ r. ⌜ Returned (now (fields .entry)) (answer (fillVerdict (now (settings .entry)) (now (cells .entry)) (fillCall (ofCategory category) date advance (now (missing .entry)) (now (filled .entry)))) (filledAre (fillFor (now (settings .entry)) (now (cells .entry)) (fillCall (ofCategory category) date advance (now (missing .entry)) (now (filled .entry)))))) r (now (fields .exit)) ⌝ }
+    ensures filled_is { λ r. ⌜ now (filled .exit) ≡ unlessShort (now (fields .entry)) (now (filled .entry)) (left (fillVerdict (now (settings .entry)) (now (cells .entry)) (fillCall (ofCategory category) date advance (now (missing .entry)) (now (filled .entry)))) (now (filled .entry)) (overwritten (fillFor (now (settings .entry)) (now (cells .entry)) (fillCall (ofCategory category) date advance (now (missing .entry)) (now (filled .entry)))) (now (filled .entry)))) ⌝ }
+{
+    if fields.len() < FIELDS {
+        return SHORT;
+    }
+    let outcome = engine::fill(settings, cells, date, category, advance, missing, filled);
+    put_fields(fields, of_outcome(outcome))
+}
+
+#[no_mangle]
+pub extern "C" fn jihoweka_fill_opted_out(
+    settings: &[u8],
+    cells: &[u64],
+    date: u64,
+    group: u64,
+    quantity: u64,
+    connection: u64,
+    advance: u32,
+    missing: &[u8],
+    filled: &mut [u64],
+    fields: &mut [i64],
+) -> u64
+    ensures answers { λ r. ⌜ Returned (now (fields .entry)) (answer (fillVerdict (now (settings .entry)) (now (cells .entry)) (fillCall (ofOptedOut group quantity connection) date advance (now (missing .entry)) (now (filled .entry)))) (filledAre (fillFor (now (settings .entry)) (now (cells .entry)) (fillCall (ofOptedOut group quantity connection) date advance (now (missing .entry)) (now (filled .entry)))))) r (now (fields .exit)) ⌝ }
+    ensures filled_is { λ r. ⌜ now (filled .exit) ≡ unlessShort (now (fields .entry)) (now (filled .entry)) (left (fillVerdict (now (settings .entry)) (now (cells .entry)) (fillCall (ofOptedOut group quantity connection) date advance (now (missing .entry)) (now (filled .entry)))) (now (filled .entry)) (overwritten (fillFor (now (settings .entry)) (now (cells .entry)) (fillCall (ofOptedOut group quantity connection) date advance (now (missing .entry)) (now (filled .entry)))) (now (filled .entry)))) ⌝ }
+{
+    if fields.len() < FIELDS {
+        return SHORT;
+    }
+    let outcome = engine::fill_opted_out(
+        settings,
+        cells,
+        date,
+        group,
+        quantity,
+        connection,
+        advance,
+        missing,
+        filled,
+    );
+    put_fields(fields, of_outcome(outcome))
 }

@@ -10,12 +10,13 @@ use borrow.Table.Steps.{cases}
 use borrow.Author.Tests.{eqb-true, leb-false, ltb-true, ltb-false, not-false}
 use Rattle.metering.specs.Laws.{between-true}
 use Rattle.metering.specs.Range.{between}
-use Rattle.ledger.specs.Checks.{RegistrationCall, ReceptionCall, Verdict, verdict, orElse, firstNumber, callNumber, registrationCheck, receptionCheck, runCheck, readCheck, totalsInRange, cellInRange, NetCall, resultsShort, mayNet, netCheck, bandCheck}
+use Rattle.ledger.specs.Checks.{RegistrationCall, ReceptionCall, Verdict, verdict, orElse, firstNumber, callNumber, registrationCheck, receptionCheck, runCheck, readCheck, totalsInRange, cellInRange, NetCall, resultsShort, mayNet, netCheck, bandCheck, fillCheck}
 use Rattle.ledger.specs.Band.{BandCall}
+use Rattle.ledger.specs.Fill.{FillCall}
 use Rattle.ledger.specs.Sizes.{metersLength, cellsLength}
-use Rattle.ledger.specs.Ledger.{Opening, categories, dates, periods, Meter, category, Ledger, start, Call, register, receive, run, readTotals, readCell, readNet, searchBand, Answer, moved, totalsAre, cellIs, netIs, bandIs, answer, left, Lengths, settingsShort, metersShort, cellsShort, anyShort, ledgerRegistrationCheck, afterRegistration, ledgerReceptionCheck, afterReception, cellAt, isRun, ledgerRunCheck, afterRun, movedBetween, ledgerTotalsCheck, ledgerCellCheck, totalsAt, ledgerNetCheck, netAt, ledgerBandCheck, bandAt, ledgerAnswer, ledgerAfter}
+use Rattle.ledger.specs.Ledger.{Opening, categories, dates, periods, Meter, category, Ledger, start, Call, register, receive, run, readTotals, readCell, readNet, searchBand, fillHole, Answer, moved, totalsAre, cellIs, netIs, bandIs, filledAre, answer, left, Lengths, settingsShort, metersShort, cellsShort, anyShort, ledgerRegistrationCheck, afterRegistration, ledgerReceptionCheck, afterReception, cellAt, isRun, ledgerRunCheck, afterRun, movedBetween, ledgerTotalsCheck, ledgerCellCheck, totalsAt, ledgerNetCheck, netAt, ledgerBandCheck, bandAt, shapeAt, ledgerFillCheck, fillAt, ledgerAnswer, ledgerAfter}
 use Rattle.ledger.specs.Store.{rowLength, datesOf, categoriesOf, periodsOf, isRunAt}
-use Rattle.ledger.specs.Calls.{metersUnready, cellsUnready, openingVerdict, openedMeters, openedReadings, openedCells, registrationVerdict, registeredMeters, receptionVerdict, receivedReadings, runVerdict, ranFrom, totalsVerdict, totalsFor, cellVerdict, cellFor, netVerdict, netFor, bandVerdict, bandFor}
+use Rattle.ledger.specs.Calls.{metersUnready, cellsUnready, openingVerdict, openedMeters, openedReadings, openedCells, registrationVerdict, registeredMeters, receptionVerdict, receivedReadings, runVerdict, ranFrom, totalsVerdict, totalsFor, cellVerdict, cellFor, netVerdict, netFor, bandVerdict, bandFor, shapeFor, fillVerdict, fillFor}
 use Rattle.ledger.specs.Engine.{Parts, callAnswer, withMeters, withReadings, withCells, leaves, openedParts, Item, cut, restored, partsAfter, answersFrom, storeAnswers, cutLengths, ledgerAnswers, Every, lengthsOf, AreBytes, BodyOfBytes, BodiesOfBytes, Agreement}
 use Rattle.ledger.proofs.Choices.{check-passed, neither, both-passed, call-passed}
 use Rattle.ledger.proofs.Verdicts.{left-of, passed-else}
@@ -26,7 +27,7 @@ use Rattle.ledger.proofs.Runs.{after-sound, run-agrees, run-length, run
 use Rattle.ledger.proofs.Register.{registration-check, registration-accepted, registration-agrees}
 use Rattle.ledger.proofs.Receive.{reception-check, reception-accepted, reception-agrees}
 use Rattle.ledger.proofs.Open as open-step
-use Rattle.ledger.proofs.Answers.{run-is, cell-is, totals-are, may-net-is, net-is, band-is}
+use Rattle.ledger.proofs.Answers.{run-is, cell-is, totals-are, may-net-is, net-is, band-is, shape-is, may-fill-is, fill-is}
 
 -- ---- the relation
 
@@ -223,36 +224,36 @@ module _ (whole : Lengths) (p : Parts) (l : Ledger) (agrees : Agrees whole p l) 
   cells-short = cells-unready o (p .settings) (n .settings) (agrees .sound .valid) (agrees .settings) C (length M) (length R)
 
   -- 14 looks at a date that there is
-  read-check : (d : ℕ) (in-store in-ledger : Bool) → (SettingsAgree o S → in-store ≡ in-ledger) →
-      readCheck (cellsShort o lent) (datesOf S) d in-store (isRunAt (rowLength S) C d) ≡ readCheck (cellsShort o lent) (dates o) d in-ledger (isRun l d)
+  read-check : (short : Bool) → (short ≡ false → cellsShort o lent ≡ false) → (d : ℕ) (in-store in-ledger : Bool) → (SettingsAgree o S → in-store ≡ in-ledger) →
+      readCheck short (datesOf S) d in-store (isRunAt (rowLength S) C d) ≡ readCheck short (dates o) d in-ledger (isRun l d)
   unfolding readCheck
-  read-check d a b h =
-      cases (cellsShort o lent)
+  read-check short long d a b h =
+      cases short
       (λ q. rw q)
       (λ q.
-      let e = enough-cells q in
+      let e = enough-cells (long q) in
       rw (q, e .0 .dates-are, h (e .0))
       (cases (leb (dates o) d)
       (λ w. rw w)
       (λ w. rw (run-is l S C (e .0) (e .1) (agrees .sound) d (leb-false (dates o) d w)))))
 
-  read-ok : (d : ℕ) (in-range : Bool) → readCheck (cellsShort o lent) (dates o) d in-range (isRun l d) ≡ 0 → CellsEnough × (d < dates o) × (in-range ≡ true) × (isRun l d ≡ true)
+  read-ok : (short : Bool) → (short ≡ false → cellsShort o lent ≡ false) → (d : ℕ) (in-range : Bool) → readCheck short (dates o) d in-range (isRun l d) ≡ 0 → CellsEnough × (d < dates o) × (in-range ≡ true) × (isRun l d ≡ true)
   unfolding readCheck
-  read-ok d b e =
-      let p1 = check-passed (cellsShort o lent) 0 _ e in
+  read-ok short long d b e =
+      let p1 = check-passed short 0 _ e in
       let p9 = check-passed (leb (dates o) d) 8 _ (p1 .1) in
       let p15 = check-passed (not b) 14 _ (p9 .1) in
       let p14 = check-passed (not (isRun l d)) 13 0 (p15 .1) in
-      (enough-cells (p1 .0), leb-false (dates o) d (p9 .0), not-false b (p15 .0), not-false (isRun l d) (p14 .0))
+      (enough-cells (long (p1 .0)), leb-false (dates o) d (p9 .0), not-false b (p15 .0), not-false (isRun l d) (p14 .0))
 
   totals-verdict : (d c : ℕ) → totalsVerdict S C d c ≡ ledgerTotalsCheck l lent d c
   unfolding totalsVerdict ledgerTotalsCheck
-  totals-verdict d c = rw cells-short (ap verdict (read-check d _ (totalsInRange (categories o) c) (λ s. rw (s .categories-are))))
+  totals-verdict d c = rw cells-short (ap verdict (read-check (cellsShort o lent) (λ q. q) d _ (totalsInRange (categories o) c) (λ s. rw (s .categories-are))))
 
   totals-value : (d c : ℕ) → ledgerTotalsCheck l lent d c .number ≡ 0 → totalsFor S C d c ≡ totalsAt l d c
   unfolding ledgerTotalsCheck totalsInRange
   totals-value d c e =
-      let (enough, date, range, ran) = read-ok d (totalsInRange (categories o) c) e in
+      let (enough, date, range, ran) = read-ok (cellsShort o lent) (λ q. q) d (totalsInRange (categories o) c) e in
       totals-are l S C (enough .0) (enough .1) (agrees .sound) d c date (ltb-true c (categories o) range) ran
 
   totals-step : (d c : ℕ) → Step (readTotals d c)
@@ -264,12 +265,12 @@ module _ (whole : Lengths) (p : Parts) (l : Ledger) (agrees : Agrees whole p l) 
   cell-verdict d c j =
       rw cells-short
       (ap verdict
-      (read-check d (cellInRange (categoriesOf S) (periodsOf S) c j) (cellInRange (categories o) (periods o) c j) (λ s. unfold periodsOf in rw (s .categories-are, s .duration))))
+      (read-check (cellsShort o lent) (λ q. q) d (cellInRange (categoriesOf S) (periodsOf S) c j) (cellInRange (categories o) (periods o) c j) (λ s. unfold periodsOf in rw (s .categories-are, s .duration))))
 
   cell-value : (d c j : ℕ) → ledgerCellCheck l lent d c j .number ≡ 0 → cellFor S C d c j ≡ cellAt l d c j
   unfolding ledgerCellCheck cellInRange
   cell-value d c j e =
-      let (enough, date, range, ran) = read-ok d (cellInRange (categories o) (periods o) c j) e in
+      let (enough, date, range, ran) = read-ok (cellsShort o lent) (λ q. q) d (cellInRange (categories o) (periods o) c j) e in
       let q = and-eq-true-iff (ltb c (categories o)) (between 1 (periods o) j) .0 range in
       let w = between-true 1 (periods o) j .0 (q .1) in
       numbered j (w .0) (λ k h. cell-is l S C (enough .0) (enough .1) (agrees .sound) d c k date (ltb-true c (categories o) (q .0)) h ran) (w .1)
@@ -333,6 +334,40 @@ module _ (whole : Lengths) (p : Parts) (l : Ledger) (agrees : Agrees whole p l) 
   unfolding callAnswer leaves ledgerAnswer ledgerAfter
   band-step a = record { answers = rw (band-verdict a) (same-answer _ _ _ (λ e. ap bandIs (band-value a e))); after = read-agrees }
 
+  -- 1 is for marks and result too
+  abbrev fillShort : FillCall → Bool
+  fillShort a = cellsShort o lent || resultsShort (periods o) (length (a .marks)) (a .room)
+
+  abbrev fillRead : FillCall → ℕ
+  fillRead a = readCheck (fillShort a) (dates o) (a .date) (totalsInRange (categories o) (shapeAt l a)) (isRun l (a .date))
+
+  fill-ok : (a : FillCall) → fillRead a ≡ 0 → CellsEnough × (a .date < dates o) × (totalsInRange (categories o) (shapeAt l a) ≡ true) × (isRun l (a .date) ≡ true)
+  fill-ok a e = read-ok (fillShort a) (λ q. neither _ _ q .0) (a .date) (totalsInRange (categories o) (shapeAt l a)) e
+
+  -- 17 looks at the cells of a run date, and of a category that there is
+  fill-verdict : (a : FillCall) → fillVerdict S C a ≡ ledgerFillCheck l lent a
+  unfolding fillVerdict ledgerFillCheck fillCheck firstNumber
+  fill-verdict a =
+      rw (lists, read-check (fillShort a) (λ q. neither _ _ q .0) (a .date) (totalsInRange (categoriesOf S) (shapeFor S a)) (totalsInRange (categories o) (shapeAt l a)) (λ s. rw (s .categories-are, shape-is l S s a)))
+      (cases (eqb (fillRead a) 0)
+      (λ q.
+      let (enough, date, range, ran) = fill-ok a (eqb-true _ 0 q) in
+      rw (may-fill-is l S C (enough .0) (enough .1) (agrees .sound) a date (ltb-true _ (categories o) (unfold totalsInRange in range)) ran))
+      (λ q. rw q))
+    where
+      lists : (cellsUnready S C || resultsShort (periodsOf S) (length (a .marks)) (a .room)) ≡ fillShort a
+      lists = rw cells-short (cases (cellsShort o lent) (λ q. rw q) (λ q. unfold periodsOf in rw (q, enough-cells q .0 .duration)))
+
+  fill-value : (a : FillCall) → ledgerFillCheck l lent a .number ≡ 0 → fillFor S C a ≡ fillAt l a
+  unfolding ledgerFillCheck fillCheck
+  fill-value a e =
+      let (enough, date, range, ran) = fill-ok a (both-passed _ _ e .0) in
+      fill-is l S C (enough .0) (enough .1) (agrees .sound) a date (ltb-true _ (categories o) (unfold totalsInRange in range)) ran
+
+  fill-step : (a : FillCall) → Step (fillHole a)
+  unfolding callAnswer leaves ledgerAnswer ledgerAfter
+  fill-step a = record { answers = rw (fill-verdict a) (same-answer _ _ _ (λ e. ap filledAre (fill-value a e))); after = read-agrees }
+
   step : (c : Call) → BodyOfBytes c → Step c
   step (register a) b = registration-step a
   step (receive a) b = reception-step a b
@@ -341,6 +376,7 @@ module _ (whole : Lengths) (p : Parts) (l : Ledger) (agrees : Agrees whole p l) 
   step (readCell d c j) b = cell-step d c j
   step (readNet a) b = net-step a
   step (searchBand a) b = band-step a
+  step (fillHole a) b = fill-step a
 
 -- ---- every list of calls
 

@@ -12,14 +12,16 @@ use Rattle.metering.specs.Calendar.{liesWithin, windowStart, windowEnd}
 use Rattle.ledger.specs.Method.{Cell, isFresh, isBlank, overRunDates, totOn, offOn, peakOn, totalsOn}
 use Rattle.ledger.specs.Net.{activeImport, activeExport, onSide, sideOf}
 use Rattle.ledger.specs.Band.{BandCall, inBand, bandDates, bandOn}
+use Rattle.ledger.specs.Fill.{ShapeOf, ofCategory, ofOptedOut, isOptedOutShape, shapeCategory, FillCall, weightBy, mayFill}
 use Rattle.ledger.specs.Checks.{NetCall, mayNet}
-use Rattle.ledger.specs.Ledger.{categories, dates, periods, category, dayType, Ledger, cellAt, isPicture, isRun, totalsAt, sideAt, netAt, bandAt}
+use Rattle.ledger.specs.Ledger.{categories, dates, periods, category, dayType, Ledger, cellAt, isPicture, isRun, totalsAt, sideAt, netAt, bandAt, shapeAt, weightAt, fillAt}
 use Rattle.ledger.specs.Store.{periodsOf, rowLength, categoryOf, dayTypeOf, cellIndex, cellOfEntry, isRunAt}
-use Rattle.ledger.specs.Calls.{rowAt, cellFor, totalsFor, sideFor, netFor, bandFor}
+use Rattle.ledger.specs.Calls.{rowAt, cellFor, totalsFor, sideFor, netFor, bandFor, shapeFor, weightFor, fillFor}
 use Rattle.ledger.specs.Engine.{Every}
 use Rattle.ledger.proofs.Lists.{sumBelow-cong, block-below}
-use Rattle.ledger.proofs.Chosen.{chosen-cong, chosen-below}
+use Rattle.ledger.proofs.Chosen.{chosen-cong, chosen-below, first-cong}
 use Rattle.ledger.proofs.Nets.{net-cong}
+use Rattle.ledger.proofs.Fills.{filled-cong}
 use Rattle.ledger.proofs.Entries.{cell-entry}
 use Rattle.ledger.proofs.Columns.{cell-small}
 use Rattle.ledger.proofs.Rows.{columnCell, run-at}
@@ -165,3 +167,26 @@ module _ (l : Ledger) (s cells : List ℕ) (agree : SettingsAgree (l .opening) s
   pub band-is : (a : BandCall) → a .category < categories (l .opening) → bandFor s cells a ≡ bandAt l a
   unfolding bandFor bandAt bandOn bandDates
   band-is a hc = rw (agree .dates-are, chosen-cong (dates (l .opening)) _ _ (band-test a hc))
+
+-- the settings have the opening's categories, so an opted-out meter takes the same one
+pub shape-is : (l : Ledger) (s : List ℕ) → SettingsAgree (l .opening) s → (a : FillCall) → shapeFor s a ≡ shapeAt l a
+unfolding shapeFor shapeAt shapeCategory
+shape-is l s agree a = rw (agree .categories-are) (same (a .shape))
+  where
+    same : (x : ShapeOf) → shapeCategory (categoryOf s) (categories (l .opening)) x ≡ shapeCategory (category (l .opening)) (categories (l .opening)) x
+    same (ofCategory c) = refl
+    same (ofOptedOut g q n) = first-cong _ _ (categories (l .opening)) 0 (λ c h. ap (isOptedOutShape g q n) (agree .records c (omega (arith, h))))
+
+module _ (l : Ledger) (s cells : List ℕ) (agree : SettingsAgree (l .opening) s) (cellsAgree : CellsAgree (l .opening) cells (l .pictures)) (sound : Sound l) (a : FillCall)
+    (date : a .date < dates (l .opening)) (shape : shapeAt l a < categories (l .opening)) (ran : isRun l (a .date) ≡ true) where
+  weight-is : (k : ℕ) → k < periods (l .opening) → weightFor s cells a k ≡ weightAt l a k
+  unfolding weightFor weightAt weightBy
+  weight-is k h = rw (shape-is l s agree a, cell-is l s cells agree cellsAgree sound (a .date) (shapeAt l a) k date shape h ran)
+
+  pub may-fill-is : mayFill (periodsOf s) (weightFor s cells a) ≡ mayFill (periods (l .opening)) (weightAt l a)
+  unfolding mayFill periodsOf
+  may-fill-is = rw (agree .duration, sumBelow-cong (periods (l .opening)) _ _ weight-is)
+
+  pub fill-is : fillFor s cells a ≡ fillAt l a
+  unfolding fillFor fillAt periodsOf
+  fill-is = rw (agree .duration) (filled-cong (periods (l .opening)) (weightFor s cells a) (weightAt l a) (a .advance) weight-is)

@@ -14,13 +14,14 @@ use Rattle.metering.specs.Calendar.{durationKnown}
 use Rattle.metering.specs.Laws.{between-true}
 use Rattle.metering.specs.Range.{between, metersInRange, categoriesInRange, datesInRange, dayTypeValid, smartValid, advancedValid, categoryValid}
 use Rattle.ledger.specs.Method.{freshIn, cellFrom, latest, cellOf, cellOn}
+use Rattle.ledger.specs.Fill.{FillCall}
 use Rattle.ledger.specs.Checks.{Verdict, firstFailed, anyBelow, orElse, recordAt, sameKey, categoryNumber, dayTypeNumber, sizesValid, openingCheck, runCheck, readCheck, cellInRange}
 use Rattle.ledger.specs.Sizes.{settingsLength, metersLength, readingsLength, cellsLength}
-use Rattle.ledger.specs.Ledger.{Opening, categories, dates, periods, category, dayType, Ledger, start, Call, register, receive, run, readTotals, readCell, readNet, searchBand, Answer, refused, moved, cellIs, answer, left, Lengths, leastLengths, settingsShort, metersShort, cellsShort, anyShort, afterRegistration, afterReception, pictureOf, afterRun, movedBetween, cellBy, cellAt, dayOf, isPicture, isRun, ledgerRegistrationCheck, ledgerReceptionCheck, ledgerRunCheck, ledgerCellCheck, ledgerAnswer, ledgerAfter}
+use Rattle.ledger.specs.Ledger.{Opening, categories, dates, periods, category, dayType, Ledger, start, Call, register, receive, run, readTotals, readCell, readNet, searchBand, fillHole, Answer, refused, moved, cellIs, filledAre, answer, left, Lengths, leastLengths, settingsShort, metersShort, cellsShort, anyShort, afterRegistration, afterReception, pictureOf, afterRun, movedBetween, cellBy, cellAt, dayOf, isPicture, isRun, ledgerRegistrationCheck, ledgerReceptionCheck, ledgerRunCheck, ledgerCellCheck, ledgerAnswer, ledgerAfter}
 use Rattle.ledger.specs.Calls.{openingVerdict}
 use Rattle.ledger.specs.Engine.{Parts, openedParts, Item, answersFrom, storeAnswers, cutLengths, ledgerAnswers, lengthsOf, BodyOfBytes, BodiesOfBytes, Every}
-use Rattle.ledger.specs.Demands.{ledgerAfterItems, ledgerBeside, LastAnswer, Accepts, EngineReceivesExactly, EngineRuns, Spares, EngineReadsMethod}
-use Rattle.ledger.specs.Marked.{exampleOpening, exampleCalls, exampleAnswers, netOpening, netCalls, netAnswers, bandOpening, bandCalls, bandAnswers, ledgerRun, worked-examples, lentLeast, EngineAnswers, WorkedOnEngine}
+use Rattle.ledger.specs.Demands.{ledgerAfterItems, ledgerBeside, LastAnswer, Accepts, EngineReceivesExactly, EngineRuns, Spares, EngineReadsMethod, shapeValue, Shared, Fills, EngineFills}
+use Rattle.ledger.specs.Marked.{exampleOpening, exampleCalls, exampleAnswers, netOpening, netCalls, netAnswers, bandOpening, bandCalls, bandAnswers, fillOpening, fillCalls, fillAnswers, ledgerRun, worked-examples, lentLeast, EngineAnswers, WorkedOnEngine}
 use Rattle.ledger.proofs.Choices.{check-passed}
 use Rattle.ledger.proofs.Verdicts.{left-none, left-of}
 use Rattle.ledger.proofs.Chosen.{every-append}
@@ -29,6 +30,7 @@ use Rattle.ledger.proofs.Bytes.{allBytes, are-bytes}
 use Rattle.ledger.proofs.Agreement.{agreement}
 use Rattle.ledger.proofs.Demands.{at-same, at-other, latest-alike, run-is-method}
 use Rattle.ledger.proofs.CallDemands.{reception-exact}
+use Rattle.ledger.proofs.FillDemands.{fill-shares}
 
 -- ---- the last answer
 
@@ -84,6 +86,7 @@ kept l n (readTotals d c) = (refl, λ x other. refl)
 kept l n (readCell d c j) = (refl, λ x other. refl)
 kept l n (readNet a) = (refl, λ x other. refl)
 kept l n (searchBand a) = (refl, λ x other. refl)
+kept l n (fillHole a) = (refl, λ x other. refl)
 
 opening-stays : (l : Ledger) (whole : Lengths) (items : List Item) → ledgerAfterItems l whole items .opening ≡ l .opening
 unfolding ledgerAfterItems
@@ -200,6 +203,17 @@ engine-reads-method p a before after n m d c j moves e b b′ ran spares long hc
     store-answers p a e (before ++ (i ∷ after)) (every-append _ before (i ∷ after) b (tt, b′)) (record { lent = m; call = readCell d c j }) _ tt
     (read-answers last (cutLengths m whole) d c j (rw o′ long) (rw o′ (rw o at (taken .0))) (rw o′ hc) low (rw o′ high) run-date ∙ ap cellIs cell)
 
+-- ---- fills
+
+shares-of : (a : Opening) (l : Ledger) → l .opening ≡ a → (n : Lengths) (r : FillCall) (given : List ℕ) → Fills l n r given →
+    Shared (periods a) (r .marks) (shapeValue l r) (r .advance) given
+shares-of a l is n r given fills = rw (← is) (fill-shares l n r given fills)
+
+pub engine-fills : EngineFills
+engine-fills p a items n r given e b heard =
+    shares-of a (ledgerBeside p a items) (opening-beside p a items) (cutLengths n (lengthsOf p)) r given
+    (store-answered p a e items b (record { lent = n; call = fillHole r }) _ tt heard)
+
 -- ---- the worked examples
 
 cut-same : (n : Lengths) → cutLengths n n ≡ n
@@ -237,6 +251,7 @@ bodyOf (readTotals d c) = []
 bodyOf (readCell d c j) = []
 bodyOf (readNet a) = []
 bodyOf (searchBand a) = []
+bodyOf (fillHole a) = []
 
 body-bytes : (c : Call) → allBytes (bodyOf c) ≡ true → BodyOfBytes c
 body-bytes (register a) e = tt
@@ -246,6 +261,7 @@ body-bytes (readTotals d c) e = tt
 body-bytes (readCell d c j) e = tt
 body-bytes (readNet a) e = tt
 body-bytes (searchBand a) e = tt
+body-bytes (fillHole a) e = tt
 
 abbrev bodiesBytes : List Call → Bool
 bodiesBytes [] = true
@@ -273,4 +289,5 @@ worked-on-engine = (
   engine-answers exampleOpening exampleCalls exampleAnswers refl refl (worked-examples .0),
   engine-answers netOpening netCalls netAnswers refl refl (worked-examples .1),
   engine-answers bandOpening bandCalls bandAnswers refl refl (worked-examples .2),
+  engine-answers fillOpening fillCalls fillAnswers refl refl (worked-examples .3),
 )

@@ -20,7 +20,7 @@ use Rattle.ledger.specs.Table.{tabulate, chosenBelow}
 use Rattle.ledger.specs.Net.{sumOver}
 use Rattle.ledger.specs.Ledger.{periods, category, dayType, Ledger, dayOf, isPicture, isRun, cellBy, cellAt, totalsAt}
 use Rattle.ledger.specs.Demands.{Earlier, Nearest, takenOver, CopyOf, NoShape, NearestEarlier, CarriedExact, CarriesNearest, runDatesAmong, WeekExact, YearExact, TotIsSum, OffAndPeak, flaggedOn, FlagsCounted}
-use Rattle.ledger.proofs.Lists.{sumBelow-cong, sumBelow-none, sumBelow-plus, sumBelow-one}
+use Rattle.ledger.proofs.Lists.{sumBelow-cong, sumBelow-none, sumBelow-plus, sumBelow-one, sumBelow-ones}
 use Rattle.ledger.proofs.Columns.{latest-other-type, latest-not-run, latest-run, cell-run}
 use Rattle.ledger.proofs.Nets.{sumOver-append, sumOver-none, sumOver-one, sumOver-plus, sumOver-alike}
 use Rattle.ledger.proofs.NetDemands.{sum-chosen}
@@ -226,7 +226,7 @@ off-and-peak l d c known =
 
 -- ---- flags
 
-chosen-count : (n : ℕ) (test : ℕ → Bool) → length (chosenBelow n test) ≡ sumBelow n (λ k. cond (test k) 1 0)
+pub chosen-count : (n : ℕ) (test : ℕ → Bool) → length (chosenBelow n test) ≡ sumBelow n (λ k. cond (test k) 1 0)
 chosen-count n test = sym (sum-ones (chosenBelow n test)) ∙ sum-chosen n test (λ _. 1)
 
 -- 1 where a flag is f
@@ -251,11 +251,6 @@ every-flag D = refl
 every-flag E = refl
 every-flag N = refl
 
-sum-one : (n : ℕ) → sumBelow n (λ _. 1) ≡ n
-unfolding sumBelow
-sum-one zero = refl
-sum-one (suc n) = let h = sum-one n in omega arith
-
 pub flags-counted : FlagsCounted
 unfolding totalsAt totalsOn
 flags-counted l d c =
@@ -264,7 +259,7 @@ flags-counted l d c =
       sumBelow-cong P _ _ (λ k h. blank-flags (flag k)),
       ap (λ n. n + sumBelow P (λ k. one E (flag k))) (sym (sumBelow-plus P _ _)) ∙ sym (sumBelow-plus P _ _)
           ∙ sumBelow-cong P _ _ (λ k h. every-flag (flag k))
-          ∙ sum-one P,
+          ∙ sumBelow-ones P,
     )
   where
     P : ℕ

@@ -17,6 +17,7 @@ pub mod Receive
 pub mod Open
 pub mod Chosen
 pub mod Nets
+pub mod Fills
 pub mod Answers
 pub mod Parts
 pub mod Bytes
@@ -26,6 +27,7 @@ pub mod FirstFailed
 pub mod CallDemands
 pub mod NetDemands
 pub mod BandDemands
+pub mod FillDemands
 pub mod FigureDemands
 pub mod SizeDemands
 pub mod EngineDemands

@@ -1,18 +1,19 @@
 -- Laws of lists and sums that the proof of agreement and the code's proofs cite.
-use Prim.Native.Nat.{ℕ, zero, suc, _+_, _*_, _/_, _≤_, _<_}
+use Prim.Native.Nat.{ℕ, zero, suc, _+_, _-_, _*_, _/_, _≤_, _<_}
 use mathlib.Core.Path.{_≡_, refl, sym, ap, _∙_}
 use mathlib.Core.Logic.{_≢_, ⊎-elim}
 use mathlib.Core.Bool.{cond}
 use mathlib.Core.List.{List, [], _∷_, _++_, append-assoc}
 use native.Mathlib.Omega.{arith}
 use native.Mathlib.Numerals.{add-one}
-use native.Mathlib.Nat.{zero-add, add-zero, add-suc, suc-add, suc-mul, zero-mul, eq-or-lt-of-le, le-of-suc-le-suc, not-suc-le-zero, mul-le-mul-right}
+use native.Mathlib.Nat.{zero-add, add-zero, add-suc, suc-add, add-mul, suc-mul, zero-mul, eq-or-lt-of-le, le-of-suc-le-suc, not-suc-le-zero, mul-le-mul-right}
 use lib.ListN.{length, getD, take, drop, set, length-append, length-drop, List·getD-append, length-set}
-use lib.Seq.{sets, set-at, drop-cons, getD-set-same, getD-set-other, getD-at, getD-take, take-suc, length-take-le}
+use lib.Seq.{sets, set-at, drop-cons, getD-set-same, getD-set-other, getD-at, getD-take, take-suc, take-at, length-take-le}
 use lib.Arith.{digits-div}
 use lib.Dec.{eqb}
 use borrow.Author.Tests.{eq-eqb, ne-eqb}
 use Rattle.metering.specs.Sum.{sumBelow, sumBelow-suc}
+use Rattle.ledger.specs.Calls.{overwritten}
 use Rattle.ledger.specs.Table.{tabulate, filling}
 
 -- what holds below n and at n holds below suc n
@@ -92,6 +93,16 @@ module _ {A : Type 0} where
   pub filled : (f : ℕ → A) (xs ys : List A) (k n : ℕ) → ys ≡ filling k f xs → k ≡ n → ys ≡ filling n f xs
   filled f xs ys k n so is = so ∙ ap (λ (m : ℕ). filling m f xs) is
 
+-- a list that is filled from f has g's values at its front where the two are alike
+pub written-is : {A : Type 0} (n : ℕ) (f g : ℕ → A) (xs ys : List A) → ys ≡ filling n f xs → ((k : ℕ) → k < n → f k ≡ g k) → ys ≡ overwritten (tabulate n g) xs
+unfolding filling overwritten
+written-is n f g xs ys e same = e ∙ rw (length-tabulate n g, tabulate-ext n f g same)
+
+-- results written to the front of a list are read off it
+pub front-is : {A : Type 0} (results lent list : List A) (n : ℕ) → length results ≡ n → list ≡ overwritten results lent → take n list ≡ results
+unfolding overwritten
+front-is results lent list n long e = rw e (take-at results (drop (length results) lent) n long)
+
 pub tabulate-at : {A : Type 0} (n : ℕ) (f : ℕ → A) (d : A) (k : ℕ) → k < n → getD (tabulate n f) k d ≡ f k
 unfolding tabulate
 tabulate-at zero f d k h = absurd (not-suc-le-zero h)
@@ -132,6 +143,42 @@ sumBelow-more m zero f = rw (add-zero m) (sym (add-zero (sumBelow m f)))
 sumBelow-more m (suc n) f =
     rw (add-suc m n, sumBelow-suc (m + n) f) (let h = sumBelow-more m n f in omega arith)
 
+-- n ones
+pub sumBelow-ones : (n : ℕ) → sumBelow n (λ k. 1) ≡ n
+unfolding sumBelow
+sumBelow-ones zero = refl
+sumBelow-ones (suc n) = rw (sumBelow-ones n) (omega arith)
+
+-- term by term
+
+pub terms-le : (n : ℕ) (f g : ℕ → ℕ) → ((k : ℕ) → k < n → f k ≤ g k) → sumBelow n f ≤ sumBelow n g
+unfolding sumBelow
+terms-le zero f g h = omega arith
+terms-le (suc n) f g h = let before = terms-le n f g (λ k l. h k (omega arith)) in let here = h n (omega arith) in omega arith
+
+pub term-le-sum : (n : ℕ) (f : ℕ → ℕ) (k : ℕ) → k < n → f k ≤ sumBelow n f
+unfolding sumBelow
+term-le-sum zero f k l = absurd (omega arith)
+term-le-sum (suc n) f k l = below-suc (λ x. f x ≤ sumBelow n f + f n) n (λ x m. let before = term-le-sum n f x m in omega arith) (omega arith) k l
+
+-- one term is less
+pub terms-lt : (n : ℕ) (f g : ℕ → ℕ) (k : ℕ) → k < n → ((i : ℕ) → i < n → f i ≤ g i) → f k < g k → sumBelow n f < sumBelow n g
+unfolding sumBelow
+terms-lt zero f g k l h less = absurd (omega arith)
+terms-lt (suc n) f g k l h less =
+    below-suc (λ x. f x < g x → sumBelow n f + f n < sumBelow n g + g n) n
+    (λ x m here. let before = terms-lt n f g x m (λ i a. h i (omega arith)) here in let last = h n (omega arith) in omega arith)
+    (λ here. let before = terms-le n f g (λ i a. h i (omega arith)) in omega arith)
+    k l less
+
+pub sum-so-far : (n : ℕ) (f : ℕ → ℕ) (k : ℕ) → k ≤ n → sumBelow k f ≤ sumBelow n f
+sum-so-far n f k h = let rest = sumBelow-more k (n - k) f in let all : k + (n - k) ≡ n = omega arith in omega (arith, rw all at rest)
+
+pub sum-times : (n : ℕ) (f : ℕ → ℕ) (c : ℕ) → sumBelow n (λ k. f k * c) ≡ sumBelow n f * c
+unfolding sumBelow
+sum-times zero f c = sym (zero-mul c)
+sum-times (suc n) f c = rw (sum-times n f c) (sym (add-mul (sumBelow n f) (f n) c))
+
 -- all but one of the terms are nothing
 pub sumBelow-one : (n c : ℕ) (f : ℕ → ℕ) → c < n → sumBelow n (λ k. cond (eqb k c) (f k) 0) ≡ f c
 unfolding sumBelow
@@ -166,6 +213,11 @@ getD-cut n xs i h = getD-take n xs i 0 h
 -- the first entries of a list of the length of the cut part, put back
 pub getD-back : (n : ℕ) (xs ys : List ℕ) (i : ℕ) → i < length ys → getD (ys ++ drop n xs) i 0 ≡ getD ys i 0
 getD-back n xs ys i h = List·getD-append ys (drop n xs) 0 i h
+
+-- a place that is filled has f's value
+pub filling-at : (n : ℕ) (f : ℕ → ℕ) (xs : List ℕ) (k : ℕ) → k < n → getD (filling n f xs) k 0 ≡ f k
+unfolding filling
+filling-at n f xs k h = getD-back n xs (tabulate n f) k (rw length-tabulate h) ∙ getD-tabulate n f k h
 
 -- ---- a part of a list
 

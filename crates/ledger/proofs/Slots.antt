@@ -12,6 +12,7 @@ use lib.ListN.{length}
 use borrow.Table.Steps.{cases}
 use borrow.Author.Tests.{ne-eqb, eqb-true}
 use Rattle.ledger.specs.Ledger.{Meter, meterWith, changed}
+use Rattle.ledger.specs.Table.{firstFrom}
 use Rattle.ledger.specs.Store.{mpanAt, slotFrom}
 use Rattle.ledger.proofs.Relation.{SoundMeters, SlotsFrom, MetersFrom}
 
@@ -134,11 +135,11 @@ module _ (M : ℕ) (At : ℕ → Meter → Type 0) (Free : ℕ → Type 0) where
 
 module _ (mpan M : ℕ) (meters : List ℕ) (some-mpan : mpan ≢ 0) where
   slot-stops : (n i : ℕ) → (eqb (mpanAt meters i) mpan || eqb (mpanAt meters i) 0) ≡ true → slotFrom mpan meters (suc n) i ≡ i
-  unfolding slotFrom
+  unfolding slotFrom firstFrom
   slot-stops n i e = rw e
 
   slot-goes-on : (n i : ℕ) → (eqb (mpanAt meters i) mpan || eqb (mpanAt meters i) 0) ≡ false → slotFrom mpan meters (suc n) i ≡ slotFrom mpan meters n (suc i)
-  unfolding slotFrom
+  unfolding slotFrom firstFrom
   slot-goes-on n i e = rw e
 
   either : (a : Bool) → (a || true) ≡ true
@@ -146,7 +147,7 @@ module _ (mpan M : ℕ) (meters : List ℕ) (some-mpan : mpan ≢ 0) where
   either false = refl
 
   pub slot-is : (C n i : ℕ) (ms : List Meter) → i + n ≡ M → SoundMeters C ms → MetersFrom M meters i ms → slotFrom mpan meters n i ≡ positionOf mpan i ms
-  slot-is C zero i [] e s a = unfold slotFrom positionOf in refl
+  slot-is C zero i [] e s a = unfold slotFrom firstFrom positionOf in refl
   slot-is C (suc n) i [] e s a =
       slot-stops n i (rw (a .1 i (omega arith) (omega (arith, e)) .no-mpan) (either (eqb 0 mpan))) ∙ (unfold positionOf in refl)
   slot-is C zero i (m ∷ ms) e s a = absurd (let l = a .0 in omega arith)

@@ -2,7 +2,7 @@
 use Prim.Native.Nat.{ℕ, zero, suc, _+_, _*_, _/_, _%_, _≤_, _<_}
 use mathlib.Core.Path.{_≡_}
 use mathlib.Core.Logic.{_≢_, _↔_, _⊎_}
-use mathlib.Core.Bool.{Bool, true, false, _&&_, cond}
+use mathlib.Core.Bool.{Bool, true, false, not, _&&_, cond}
 use mathlib.Core.List.{List, [], _∷_, _++_, map}
 use mathlib.Core.Option.{Option, none, some}
 use lib.Dec.{eqb, ltb}
@@ -15,11 +15,12 @@ use Rattle.ledger.specs.Method.{Category, sameFamily, Picture, absent, f
 use Rattle.ledger.specs.Table.{tabulate, chosenBelow}
 use Rattle.ledger.specs.Net.{activeImport, activeExport, onSide, sumOver, anyOf, netOn}
 use Rattle.ledger.specs.Band.{BandCall}
+use Rattle.ledger.specs.Fill.{ShapeOf, ofCategory, ofOptedOut, FillCall, weightBy, mayFill, remainderOf, leftOver, filledValues}
 use Rattle.ledger.specs.Checks.{Registration, RegistrationCall, ReceptionCall, endMinute, quality, wattHoursAt, openingCheck, NetCall, mayNet}
 use Rattle.ledger.specs.Sizes.{settingsLength, metersLength, readingsLength, cellsLength}
-use Rattle.ledger.specs.Ledger.{Opening, categories, dates, periods, category, dayType, Meter, Ledger, register, start, receive, run, readTotals, readCell, readNet, searchBand, Answer, refused, accepted, moved, totalsAre, cellIs, netIs, bandIs, answer, Lengths, leastLengths, metersShort, cellsShort, anyShort, meterWith, currentOf, cellAt, dayOf, isRun, pictureOf, afterRun, movedBetween, totalsAt, sideAt, netAt, bandAt, ledgerAnswer, ledgerAfter}
+use Rattle.ledger.specs.Ledger.{Opening, categories, dates, periods, category, dayType, Meter, Ledger, register, start, receive, run, readTotals, readCell, readNet, searchBand, fillHole, Answer, refused, accepted, moved, totalsAre, cellIs, netIs, bandIs, filledAre, answer, Lengths, leastLengths, metersShort, cellsShort, anyShort, meterWith, currentOf, cellAt, dayOf, isRun, pictureOf, afterRun, movedBetween, totalsAt, sideAt, netAt, bandAt, shapeAt, fillAt, ledgerAnswer, ledgerAfter}
 use Rattle.ledger.specs.Calls.{openingVerdict}
-use Rattle.ledger.specs.Engine.{Parts, openedParts, Item, storeAnswers, cutLengths, lengthsOf, AreBytes, BodiesOfBytes, Every}
+use Rattle.ledger.specs.Engine.{Parts, leaves, openedParts, Item, storeAnswers, cutLengths, lengthsOf, AreBytes, BodiesOfBytes, Every}
 
 -- ---- Demand 2, reception: a meter day is accepted exactly when the conditions hold
 
@@ -636,3 +637,127 @@ BandCounts =
     (bandAt l a .dates ≡ take (a .room) (allDates l a))
     × (bandAt l a .written ≡ length (bandAt l a .dates))
     × (bandAt l a .found ≡ length (allDates l a))
+
+-- ---- Filling a hole (change request 2026-01)
+
+-- a Smart domestic category with this group, quantity and connection
+pub record OptedOutShape (group quantity connection : ℕ) (a : Category) : Type 0 where
+  pub smart : a .segment ≡ 1
+  pub domestic : a .domestic ≡ 1
+  pub same-group : a .group ≡ group
+  pub same-quantity : a .quantity ≡ quantity
+  pub same-connection : a .connection ≡ connection
+
+-- category c is one whose shape is asked for: the category named, or one for a meter opted out of half-hours
+abbrev pub HasShape : Opening → ShapeOf → ℕ → Type 0
+HasShape o (ofCategory x) c = (c < categories o) × (c ≡ x)
+HasShape o (ofOptedOut group quantity connection) c = (c < categories o) × OptedOutShape group quantity connection (category o c)
+
+-- of an accepted opening at most one category is, and that is the one taken
+abbrev pub ShapeExact : Type 0
+ShapeExact =
+    (l : Ledger) (short : Bool) (a : FillCall) → openingCheck (l .opening) short .number ≡ 0 → (c : ℕ) →
+    HasShape (l .opening) (a .shape) c ↔ ((c < categories (l .opening)) × (shapeAt l a ≡ c))
+
+-- below, k periods come before the one meant; any mark but 0 says that it is missing
+abbrev pub IsMissing : List ℕ → ℕ → Type 0
+IsMissing marks k = getD marks k 0 ≢ 0
+
+-- the sum of the missing periods' values
+abbrev pub missingSum : ℕ → List ℕ → (ℕ → ℕ) → ℕ
+missingSum periods marks value = sumOver (chosenBelow periods (λ k. not (eqb (getD marks k 0) 0))) value
+
+-- the values of the shape on the date
+abbrev pub shapeValue : Ledger → FillCall → ℕ → ℕ
+shapeValue l a k = cellAt l (a .date) (shapeAt l a) (suc k) .value
+
+-- which check fails first; 1 is for marks and result too, and 17 asks that a period is missing and that the missing periods' values do not sum to 0
+abbrev pub FillExact : Type 0
+FillExact =
+    (l : Ledger) (n : Lengths) (a : FillCall) →
+    let o = l .opening in
+    GoesBy
+    (row 1 (CellsLong o n × (periods o ≤ length (a .marks)) × (periods o ≤ a .room))
+    ∷ row 9 (a .date < dates o)
+    ∷ row 15 ((c : ℕ) × HasShape o (a .shape) c)
+    ∷ row 14 (HasPicture l (a .date))
+    ∷ row 17 (((k : ℕ) × (k < periods o) × IsMissing (a .marks) k) × (missingSum (periods o) (a .marks) (shapeValue l a) ≢ 0))
+    ∷ [])
+    (filledAre (fillAt l a))
+    (ledgerAnswer l n (fillHole a))
+
+-- what the paper asks of the numbers given to the periods
+pub record Shared (periods : ℕ) (marks : List ℕ) (value : ℕ → ℕ) (advance : ℕ) (given : List ℕ) : Type 0 where
+  -- P numbers, 0 where nothing was missing
+  pub long : length given ≡ periods
+  pub not-missing : (k : ℕ) → k < periods → getD marks k 0 ≡ 0 → getD given k 0 ≡ 0
+  -- advance times value divided by the sum of the missing periods' values: the whole part and the remainder
+  pub part : ℕ → ℕ
+  pub remainder : ℕ → ℕ
+  pub divided : (k : ℕ) → (advance * value k ≡ part k * missingSum periods marks value + remainder k) × (remainder k < missingSum periods marks value)
+  -- a missing period gets the whole part, or one Wh more
+  pub whole-part : (k : ℕ) → k < periods → IsMissing marks k → (getD given k 0 ≡ part k) ⊎ (getD given k 0 ≡ part k + 1)
+  -- where i gets one more and k does not, i has the larger remainder, or the same and is the earlier
+  pub largest-first : (i k : ℕ) → i < periods → k < periods → IsMissing marks i → IsMissing marks k → getD given i 0 ≡ part i + 1 → getD given k 0 ≡ part k →
+      (remainder k < remainder i) ⊎ ((remainder k ≡ remainder i) × (i < k))
+  -- they add up to the advance exactly
+  pub adds-up : sumOver given (λ v. v) ≡ advance
+
+-- the filled values are the only such numbers
+abbrev pub FillUnique : Type 0
+FillUnique =
+    (periods : ℕ) (marks : List ℕ) (value : ℕ → ℕ) (advance : ℕ) → missingSum periods marks value ≢ 0 → (given : List ℕ) →
+    (given ≡ filledValues periods (weightBy marks value) advance) ↔ Shared periods marks value advance given
+
+-- so a call that is not refused answers with them
+abbrev pub Fills : Ledger → Lengths → FillCall → List ℕ → Type 0
+Fills l n a given = ledgerAnswer l n (fillHole a) ≡ filledAre given
+
+abbrev pub FillShares : Type 0
+FillShares =
+    (l : Ledger) (n : Lengths) (a : FillCall) (given : List ℕ) → Fills l n a given → Shared (periods (l .opening)) (a .marks) (shapeValue l a) (a .advance) given
+
+-- each missing period gets a number less than one Wh away from its exact share, and nothing where its value is 0
+abbrev pub FillNear : Type 0
+FillNear =
+    (l : Ledger) (n : Lengths) (a : FillCall) (given : List ℕ) → Fills l n a given → (k : ℕ) → k < periods (l .opening) → IsMissing (a .marks) k →
+    let sum = missingSum (periods (l .opening)) (a .marks) (shapeValue l a) in
+    let share = a .advance * shapeValue l a k in
+    (getD given k 0 * sum < share + sum) × (share < getD given k 0 * sum + sum) × (shapeValue l a k ≡ 0 → getD given k 0 ≡ 0)
+
+-- where one period is missing it gets all of the advance
+abbrev pub FillAlone : Type 0
+FillAlone =
+    (l : Ledger) (n : Lengths) (a : FillCall) (given : List ℕ) → Fills l n a given → (i : ℕ) → i < periods (l .opening) →
+    ((k : ℕ) → k < periods (l .opening) → IsMissing (a .marks) k → k ≡ i) → getD given i 0 ≡ a .advance
+
+-- nothing is left over, or fewer Wh than there are remainders above 0: one each is enough
+abbrev pub LeftOverFew : Type 0
+LeftOverFew =
+    (periods : ℕ) (weight : ℕ → ℕ) (advance : ℕ) → mayFill periods weight ≡ true →
+    (leftOver periods weight advance ≡ 0) ⊎ (leftOver periods weight advance < length (chosenBelow periods (λ k. ltb 0 (remainderOf periods weight advance k))))
+
+-- worked: four periods with the values 500, 300, 300 and 0
+abbrev pub workedWeight : List ℕ → ℕ → ℕ
+workedWeight marks = weightBy marks (λ k. getD (500 ∷ 300 ∷ 300 ∷ 0 ∷ []) k 0)
+
+abbrev pub FillWorked : Type 0
+FillWorked =
+    (filledValues 4 (workedWeight (1 ∷ 1 ∷ 1 ∷ 1 ∷ [])) 100 ≡ 46 ∷ 27 ∷ 27 ∷ 0 ∷ [])
+    × (filledValues 4 (workedWeight (0 ∷ 1 ∷ 255 ∷ 0 ∷ [])) 1001 ≡ 0 ∷ 501 ∷ 500 ∷ 0 ∷ [])
+    × (filledValues 4 (workedWeight (1 ∷ 1 ∷ 1 ∷ 0 ∷ [])) 2 ≡ 1 ∷ 1 ∷ 0 ∷ 0 ∷ [])
+    × (filledValues 4 (workedWeight (1 ∷ 1 ∷ 0 ∷ 0 ∷ [])) 4294967295 ≡ 2684354559 ∷ 1610612736 ∷ 0 ∷ 0 ∷ [])
+    × (filledValues 4 (workedWeight (0 ∷ 0 ∷ 1 ∷ 0 ∷ [])) 7 ≡ 0 ∷ 0 ∷ 7 ∷ 0 ∷ [])
+    × (mayFill 4 (workedWeight (0 ∷ 0 ∷ 0 ∷ 1 ∷ [])) ≡ false)
+    × (mayFill 4 (workedWeight (0 ∷ 0 ∷ 0 ∷ 0 ∷ [])) ≡ false)
+
+-- a fill changes nothing
+abbrev pub FillLeavesAll : Type 0
+FillLeavesAll = (l : Ledger) (n : Lengths) (p : Parts) (a : FillCall) → (ledgerAfter l n (fillHole a) ≡ l) × (leaves p (fillHole a) ≡ p)
+
+-- on the engine: where the store, after any calls, answers a fill with numbers, they are these, by the shape of the ledger beside it
+abbrev pub EngineFills : Type 0
+EngineFills =
+    (p : Parts) (a : Opening) (items : List Item) (n : Lengths) (r : FillCall) (given : List ℕ) → Accepts p a → BodiesOfBytes items →
+    LastAnswer (openedParts p a) items (record { lent = n; call = fillHole r }) (filledAre given) →
+    Shared (periods a) (r .marks) (shapeValue (ledgerBeside p a items) r) (r .advance) given

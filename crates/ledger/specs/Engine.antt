@@ -3,8 +3,8 @@ use Prim.Native.Nat.{ℕ, _<_, min}
 use mathlib.Core.Path.{_≡_}
 use mathlib.Core.List.{List, [], _∷_, _++_}
 use lib.ListN.{length, getD, take, drop}
-use Rattle.ledger.specs.Ledger.{Opening, Ledger, start, Call, register, receive, run, readTotals, readCell, readNet, searchBand, Answer, accepted, moved, totalsAre, cellIs, netIs, bandIs, answer, left, Lengths, ledgerAnswer, ledgerAfter}
-use Rattle.ledger.specs.Calls.{openingVerdict, openedSettings, openedMeters, openedReadings, openedCells, registrationVerdict, registeredMeters, receptionVerdict, receivedReadings, runVerdict, ranFrom, totalsVerdict, totalsFor, cellVerdict, cellFor, netVerdict, netFor, bandVerdict, bandFor}
+use Rattle.ledger.specs.Ledger.{Opening, Ledger, start, Call, register, receive, run, readTotals, readCell, readNet, searchBand, fillHole, Answer, accepted, moved, totalsAre, cellIs, netIs, bandIs, filledAre, answer, left, Lengths, ledgerAnswer, ledgerAfter}
+use Rattle.ledger.specs.Calls.{openingVerdict, openedSettings, openedMeters, openedReadings, openedCells, registrationVerdict, registeredMeters, receptionVerdict, receivedReadings, runVerdict, ranFrom, totalsVerdict, totalsFor, cellVerdict, cellFor, netVerdict, netFor, bandVerdict, bandFor, fillVerdict, fillFor}
 
 -- the parts of a store
 pub record Parts : Type 0 where
@@ -24,6 +24,7 @@ callAnswer p (readTotals d c) = answer (totalsVerdict (p .settings) (p .cells) d
 callAnswer p (readCell d c j) = answer (cellVerdict (p .settings) (p .cells) d c j) (cellIs (cellFor (p .settings) (p .cells) d c j))
 callAnswer p (readNet a) = answer (netVerdict (p .settings) (p .cells) a) (netIs (netFor (p .settings) (p .cells) a))
 callAnswer p (searchBand a) = answer (bandVerdict (p .settings) (p .cells) a) (bandIs (bandFor (p .settings) (p .cells) a))
+callAnswer p (fillHole a) = answer (fillVerdict (p .settings) (p .cells) a) (filledAre (fillFor (p .settings) (p .cells) a))
 
 -- parts of which one is written
 abbrev pub withMeters : List ℕ → Parts → Parts
@@ -50,6 +51,7 @@ leaves p (readTotals d c) = p
 leaves p (readCell d c j) = p
 leaves p (readNet a) = p
 leaves p (searchBand a) = p
+leaves p (fillHole a) = p
 
 -- the parts after an accepted opening
 unfoldable pub openedParts : Parts → Opening → Parts
@@ -132,6 +134,7 @@ BodyOfBytes (readTotals d c) = Unit {0}
 BodyOfBytes (readCell d c j) = Unit {0}
 BodyOfBytes (readNet a) = Unit {0}
 BodyOfBytes (searchBand a) = Unit {0}
+BodyOfBytes (fillHole a) = Unit {0}
 
 -- a condition on every entry of a list
 abbrev pub Every : {I : Type 0} → (I → Type 0) → List I → Type 0

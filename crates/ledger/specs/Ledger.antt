@@ -9,7 +9,8 @@ use Rattle.metering.specs.Sum.{sumBelow}
 use Rattle.ledger.specs.Method.{Category, ReadingSet, Picture, freshIn, Cell, Day, notRun, ran, cellOn, movedCell, Totals, totalsOn}
 use Rattle.ledger.specs.Net.{activeImport, activeExport, sideOf, Net, netOn}
 use Rattle.ledger.specs.Band.{BandCall, Band, bandOn}
-use Rattle.ledger.specs.Checks.{Registration, RegistrationCall, ReceptionCall, Verdict, verdict, registered, startOf, inForce, registrationCheck, receptionCheck, readingIn, anyBelow, runCheck, readCheck, totalsInRange, cellInRange, NetCall, resultsShort, mayNet, netCheck, bandCheck}
+use Rattle.ledger.specs.Fill.{FillCall, shapeCategory, weightBy, mayFill, filledValues}
+use Rattle.ledger.specs.Checks.{Registration, RegistrationCall, ReceptionCall, Verdict, verdict, registered, startOf, inForce, registrationCheck, receptionCheck, readingIn, anyBelow, runCheck, readCheck, totalsInRange, cellInRange, NetCall, resultsShort, mayNet, netCheck, bandCheck, fillCheck}
 use Rattle.ledger.specs.Sizes.{settingsLength, metersLength, readingsLength, cellsLength}
 pub use Rattle.ledger.specs.Opening.{Opening, categories, dates, periods, category, dayType}
 
@@ -41,6 +42,7 @@ pub data Call : Type 0 where
   readCell : ℕ → ℕ → ℕ → Call
   readNet : NetCall → Call
   searchBand : BandCall → Call
+  fillHole : FillCall → Call
 
 -- a refusal has its number and place
 pub data Answer : Type 0 where
@@ -51,6 +53,7 @@ pub data Answer : Type 0 where
   cellIs : Cell → Answer
   netIs : Net → Answer
   bandIs : Band → Answer
+  filledAre : List ℕ → Answer
 
 -- the first failed check's answer, or that of the accepted call
 unfoldable pub answer : Verdict → Answer → Answer
@@ -251,6 +254,25 @@ ledgerBandCheck l n a = verdict (bandCheck (cellsShort (l .opening) n) (totalsIn
 unfoldable pub bandAt : Ledger → BandCall → Band
 bandAt l a = bandOn (dates (l .opening)) (isRun l) (dayType (l .opening)) (λ d. totalsAt l d (a .category) .tot) a
 
+-- the category whose shape a fill takes
+unfoldable pub shapeAt : Ledger → FillCall → ℕ
+shapeAt l a = shapeCategory (category (l .opening)) (categories (l .opening)) (a .shape)
+
+-- what each period of the date counts for
+unfoldable pub weightAt : Ledger → FillCall → ℕ → ℕ
+weightAt l a = weightBy (a .marks) (λ k. cellAt l (a .date) (shapeAt l a) (suc k) .value)
+
+unfoldable pub ledgerFillCheck : Ledger → Lengths → FillCall → Verdict
+ledgerFillCheck l n a =
+    verdict
+    (fillCheck (cellsShort (l .opening) n || resultsShort (periods (l .opening)) (length (a .marks)) (a .room)) (dates (l .opening)) (a .date)
+    (totalsInRange (categories (l .opening)) (shapeAt l a))
+    (isRun l (a .date))
+    (mayFill (periods (l .opening)) (weightAt l a)))
+
+unfoldable pub fillAt : Ledger → FillCall → List ℕ
+fillAt l a = filledValues (periods (l .opening)) (weightAt l a) (a .advance)
+
 -- ---- a call
 
 unfoldable pub ledgerAnswer : Ledger → Lengths → Call → Answer
@@ -261,6 +283,7 @@ ledgerAnswer l n (readTotals d c) = answer (ledgerTotalsCheck l n d c) (totalsAr
 ledgerAnswer l n (readCell d c j) = answer (ledgerCellCheck l n d c j) (cellIs (cellAt l d c j))
 ledgerAnswer l n (readNet a) = answer (ledgerNetCheck l n a) (netIs (netAt l a))
 ledgerAnswer l n (searchBand a) = answer (ledgerBandCheck l n a) (bandIs (bandAt l a))
+ledgerAnswer l n (fillHole a) = answer (ledgerFillCheck l n a) (filledAre (fillAt l a))
 
 unfoldable pub ledgerAfter : Ledger → Lengths → Call → Ledger
 ledgerAfter l n (register a) = left (ledgerRegistrationCheck l n a) l (afterRegistration l a)
@@ -270,3 +293,4 @@ ledgerAfter l n (readTotals d c) = l
 ledgerAfter l n (readCell d c j) = l
 ledgerAfter l n (readNet a) = l
 ledgerAfter l n (searchBand a) = l
+ledgerAfter l n (fillHole a) = l

@@ -3,6 +3,8 @@ pub mod Method
 pub mod Table
 pub mod Net
 pub mod Band
+pub mod Fill
+pub mod Threshold
 pub mod Opening
 pub mod Checks
 pub mod Sizes

@@ -1,4 +1,4 @@
--- The scope paper's marked list as one computed check; its worked example, one of nets and one of bands as computed runs of the ledger.
+-- The scope paper's marked list as one computed check; its worked example, one of nets, one of bands and one of fills as computed runs of the ledger.
 use Prim.Native.Nat.{ℕ, zero, suc, _/_, _%_}
 use mathlib.Core.Path.{_≡_, refl}
 use mathlib.Core.Bool.{Bool, true, false, not, _&&_, Bool·beq}
@@ -13,12 +13,13 @@ use Rattle.metering.specs.Average.{average, annual}
 use Rattle.metering.specs.Range.{between, dayTypeValid}
 use Rattle.metering.specs.Calendar.{periodsPerDay, periodEnding, liesWithin, windowStart, windowEnd}
 use Rattle.ledger.specs.Method.{Category, categoryAt, isSmart, sameFamily, HeldSet, Picture, total, isEnough, freshOf, freshIn, Cell, D, blank, carried, cellFrom, ran, afterDate, latest, cellOf, cellOn, sameCell, movedCell, overRunDates, totOn, offOn, peakOn, totalsOn}
-use Rattle.ledger.specs.Table.{tabulate, chosenBelow}
+use Rattle.ledger.specs.Table.{tabulate, chosenBelow, firstFrom}
 use Rattle.ledger.specs.Net.{onSide, sideOf, sumOver, anyOf, signedSum, netPeriod, markOf, netTot, netTot7, netOn}
 use Rattle.ledger.specs.Band.{inBand, bandDates, bandOn}
-use Rattle.ledger.specs.Checks.{firstFailed, anyBelow, orElse, firstNumber, callNumber, contentNumber, recordNumberIf, recordNumber, endMinute, quality, wattHoursAt, startOf, later, inForceAfter, inForce, notAfterLast, fieldsNumber, knownNumber, meterNumber, registrationCheck, headerNumber, bodyCheck, inForceCheck, receptionCheck, isReading, readingIn, runCheck, readCheck, totalsInRange, cellInRange, resultsShort, mayNet, netCheck, bandCheck}
+use Rattle.ledger.specs.Fill.{ShapeOf, ofCategory, ofOptedOut, isOptedOutShape, shapeCategory, weightBy, mayFill, comesBefore, countBefore, wholePart, remainderOf, leftOver, filledValue, filledValues}
+use Rattle.ledger.specs.Checks.{firstFailed, anyBelow, orElse, firstNumber, callNumber, contentNumber, recordNumberIf, recordNumber, endMinute, quality, wattHoursAt, startOf, later, inForceAfter, inForce, notAfterLast, fieldsNumber, knownNumber, meterNumber, registrationCheck, headerNumber, bodyCheck, inForceCheck, receptionCheck, isReading, readingIn, runCheck, readCheck, totalsInRange, cellInRange, resultsShort, mayNet, netCheck, bandCheck, fillCheck}
 use Rattle.ledger.specs.Sizes.{settingsLength, metersLength, readingsLength, cellsLength}
-use Rattle.ledger.specs.Ledger.{Opening, Ledger, start, Call, register, receive, run, readTotals, readCell, readNet, searchBand, Answer, refused, accepted, moved, totalsAre, netIs, bandIs, answer, left, Lengths, leastLengths, settingsShort, metersShort, cellsShort, anyShort, meterWith, changed, heldFrom, ledgerRegistrationCheck, registerIn, afterRegistration, ledgerReceptionCheck, setOf, at, afterReception, cellBy, cellAt, isRun, ledgerRunCheck, pictureOf, afterRun, movedBetween, ledgerTotalsCheck, ledgerCellCheck, totalsAt, ledgerNetCheck, sideAt, netAt, ledgerBandCheck, bandAt, ledgerAnswer, ledgerAfter}
+use Rattle.ledger.specs.Ledger.{Opening, Ledger, start, Call, register, receive, run, readTotals, readCell, readNet, searchBand, fillHole, Answer, refused, accepted, moved, totalsAre, netIs, bandIs, filledAre, answer, left, Lengths, leastLengths, settingsShort, metersShort, cellsShort, anyShort, meterWith, changed, heldFrom, ledgerRegistrationCheck, registerIn, afterRegistration, ledgerReceptionCheck, setOf, at, afterReception, cellBy, cellAt, isRun, ledgerRunCheck, pictureOf, afterRun, movedBetween, ledgerTotalsCheck, ledgerCellCheck, totalsAt, ledgerNetCheck, sideAt, netAt, ledgerBandCheck, bandAt, shapeAt, weightAt, ledgerFillCheck, fillAt, ledgerAnswer, ledgerAfter}
 use Rattle.ledger.specs.Engine.{Parts, openedParts, Item, storeAnswers, lengthsOf}
 use Rattle.ledger.specs.Demands.{Accepts}
 
@@ -232,14 +233,94 @@ bandAnswers =
     ∷ bandOf 2 2 (3 ∷ 4 ∷ [])
     ∷ []
 
--- ---- all three, computed
+-- ---- a worked example of fills (change request 2026-01)
+
+-- Smart import of group A, domestic and not, and Advanced import of another connection; two dates of one day type
+abbrev pub fillOpening : Opening
+fillOpening =
+    record {
+      duration = 30;
+      meters = 1;
+      categoryBytes =
+          1 ∷ 1 ∷ 1 ∷ 1 ∷ 1 ∷ 0 ∷ 0 ∷ 1
+          ∷ 1 ∷ 1 ∷ 2 ∷ 1 ∷ 1 ∷ 0 ∷ 0 ∷ 1
+          ∷ 2 ∷ 0 ∷ 0 ∷ 1 ∷ 2 ∷ 0 ∷ 0 ∷ 1
+          ∷ [];
+      dayTypes = 1 ∷ 1 ∷ [];
+    }
+
+-- the marks of the first five periods, the others being 0
+abbrev pub missing : ℕ → ℕ → ℕ → ℕ → ℕ → List ℕ
+missing a b c d e = a ∷ b ∷ c ∷ d ∷ e ∷ replicate 43 0
+
+abbrev pub asksShape : ShapeOf → ℕ → List ℕ → Call
+asksShape shape advance marks = fillHole (record { shape = shape; date = 0; advance = advance; marks = marks; room = 48 })
+
+abbrev pub asksFill : ℕ → List ℕ → Call
+asksFill advance marks = asksShape (ofCategory 0) advance marks
+
+abbrev pub asksDate : ℕ → List ℕ → ℕ → Call
+asksDate date marks room = fillHole (record { shape = ofCategory 0; date = date; advance = 100; marks = marks; room = room })
+
+-- 500, 300, 300 and 0 Wh in periods 1 to 4 of category 0
+abbrev pub fillCalls : List Call
+fillCalls =
+    registers exampleMpan 0
+    ∷ sends exampleMpan 0 1 (half 30 500 (half 60 300 (half 90 300 (half 120 0 []))))
+    ∷ run 0
+    ∷ asksFill 100 (missing 1 1 1 1 0)
+    ∷ asksFill 1001 (missing 0 1 1 0 0)
+    ∷ asksFill 2 (missing 1 1 1 0 0)
+    ∷ asksFill 4294967295 (missing 1 1 0 0 0)
+    ∷ asksFill 100 (missing 0 0 0 1 1)
+    ∷ asksFill 100 (missing 0 0 0 0 0)
+    ∷ asksShape (ofOptedOut 1 1 1) 100 (missing 1 1 1 1 0)
+    ∷ asksShape (ofOptedOut 1 1 2) 100 (missing 1 1 1 1 0)
+    ∷ asksShape (ofOptedOut 2 1 1) 100 (missing 1 1 1 1 0)
+    ∷ asksShape (ofCategory 3) 100 (missing 1 1 1 1 0)
+    ∷ asksDate 1 (missing 0 0 0 0 0) 48
+    ∷ asksDate 2 (missing 1 1 1 1 0) 48
+    ∷ asksDate 2 (replicate 47 1) 48
+    ∷ asksDate 0 (missing 1 1 1 1 0) 47
+    ∷ readTotals 0 0
+    ∷ []
+
+-- the first four periods, the others being 0
+abbrev pub filledOf : ℕ → ℕ → ℕ → ℕ → Answer
+filledOf a b c d = filledAre (a ∷ b ∷ c ∷ d ∷ replicate 44 0)
+
+-- the Advanced category of connection 2 is no shape for an opted-out meter
+abbrev pub fillAnswers : List Answer
+fillAnswers =
+    accepted ∷ accepted
+    ∷ moved 4
+    ∷ filledOf 46 27 27 0
+    ∷ filledOf 0 501 500 0
+    ∷ filledOf 1 1 0 0
+    ∷ filledOf 2684354559 1610612736 0 0
+    ∷ refused 17 0
+    ∷ refused 17 0
+    ∷ filledOf 46 27 27 0
+    ∷ refused 15 0
+    ∷ refused 15 0
+    ∷ refused 15 0
+    ∷ refused 14 0
+    ∷ refused 9 0
+    ∷ refused 1 0
+    ∷ refused 1 0
+    ∷ totalsAre
+    (record { tot = 1100; off = 0; peak = 0; tot7 = 1100; off7 = 0; peak7 = 0; days7 = 1; ann = 401500; days = 1; fresh = 4; blanks = 44 })
+    ∷ []
+
+-- ---- all four, computed
 
 pub worked-examples :
     (ledgerRun (start exampleOpening) (leastLengths exampleOpening) exampleCalls ≡ exampleAnswers)
     × (ledgerRun (start netOpening) (leastLengths netOpening) netCalls ≡ netAnswers)
     × (ledgerRun (start bandOpening) (leastLengths bandOpening) bandCalls ≡ bandAnswers)
-unfolding ledgerRun start ledgerAnswer ledgerAfter answer left settingsShort metersShort cellsShort anyShort meterWith changed heldFrom ledgerRegistrationCheck registerIn afterRegistration ledgerReceptionCheck setOf at afterReception cellBy cellAt isRun ledgerRunCheck pictureOf afterRun movedBetween ledgerTotalsCheck ledgerCellCheck totalsAt settingsLength metersLength readingsLength cellsLength firstFailed startOf later inForceAfter inForce notAfterLast meterNumber registrationCheck bodyCheck inForceCheck receptionCheck isReading readingIn runCheck readCheck totalsInRange cellInRange movedCell overRunDates totOn offOn peakOn totalsOn categoryAt mpanValid checkDigit weightedSum product digit weights sumBelow average annual recordNumber periodEnding periodsPerDay liesWithin windowStart windowEnd between sameCell blank cellOn cellOf cellFrom latest afterDate freshIn freshOf isEnough total isSmart sameFamily anyBelow endMinute quality wattHoursAt carried netCheck resultsShort mayNet ledgerNetCheck sideAt netAt onSide chosenBelow sideOf sumOver anyOf signedSum netPeriod markOf netTot netTot7 netOn tabulate orElse firstNumber callNumber fieldsNumber knownNumber headerNumber recordNumberIf contentNumber bandCheck ledgerBandCheck bandAt bandOn bandDates inBand dayTypeValid
-worked-examples = (refl, refl, refl)
+    × (ledgerRun (start fillOpening) (leastLengths fillOpening) fillCalls ≡ fillAnswers)
+unfolding ledgerRun start ledgerAnswer ledgerAfter answer left settingsShort metersShort cellsShort anyShort meterWith changed heldFrom ledgerRegistrationCheck registerIn afterRegistration ledgerReceptionCheck setOf at afterReception cellBy cellAt isRun ledgerRunCheck pictureOf afterRun movedBetween ledgerTotalsCheck ledgerCellCheck totalsAt settingsLength metersLength readingsLength cellsLength firstFailed startOf later inForceAfter inForce notAfterLast meterNumber registrationCheck bodyCheck inForceCheck receptionCheck isReading readingIn runCheck readCheck totalsInRange cellInRange movedCell overRunDates totOn offOn peakOn totalsOn categoryAt mpanValid checkDigit weightedSum product digit weights sumBelow average annual recordNumber periodEnding periodsPerDay liesWithin windowStart windowEnd between sameCell blank cellOn cellOf cellFrom latest afterDate freshIn freshOf isEnough total isSmart sameFamily anyBelow endMinute quality wattHoursAt carried netCheck resultsShort mayNet ledgerNetCheck sideAt netAt onSide chosenBelow sideOf sumOver anyOf signedSum netPeriod markOf netTot netTot7 netOn tabulate orElse firstNumber callNumber fieldsNumber knownNumber headerNumber recordNumberIf contentNumber bandCheck ledgerBandCheck bandAt bandOn bandDates inBand dayTypeValid fillCheck ledgerFillCheck shapeAt weightAt fillAt isOptedOutShape shapeCategory firstFrom weightBy mayFill comesBefore countBefore wholePart remainderOf leftOver filledValue filledValues
+worked-examples = (refl, refl, refl, refl)
 
 -- ---- the same on the engine, from its opening on
 
@@ -252,7 +333,10 @@ abbrev pub EngineAnswers : Opening → List Call → List Answer → Type 0
 EngineAnswers a calls answers =
     (p : Parts) → lengthsOf p ≡ leastLengths a → Accepts p a × (storeAnswers (openedParts p a) (lentLeast a calls) ≡ answers)
 
--- all three examples
+-- all four examples
 abbrev pub WorkedOnEngine : Type 0
 WorkedOnEngine =
-    EngineAnswers exampleOpening exampleCalls exampleAnswers × EngineAnswers netOpening netCalls netAnswers × EngineAnswers bandOpening bandCalls bandAnswers
+    EngineAnswers exampleOpening exampleCalls exampleAnswers
+    × EngineAnswers netOpening netCalls netAnswers
+    × EngineAnswers bandOpening bandCalls bandAnswers
+    × EngineAnswers fillOpening fillCalls fillAnswers

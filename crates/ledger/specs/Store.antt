@@ -10,6 +10,7 @@ use Rattle.metering.specs.Range.{metersInRange, categoriesInRange, datesInRange
 use Rattle.metering.specs.Calendar.{durationKnown, periodsPerDay}
 use Rattle.ledger.specs.Method.{Category, categoryAt, Flag, A, D, E, N, flagNumber, Cell}
 use Rattle.ledger.specs.Opening.{Opening, categories, dates}
+use Rattle.ledger.specs.Table.{firstFrom}
 use Rattle.ledger.specs.Checks.{Registration}
 use Rattle.ledger.specs.Sizes.{headerLength, settingsLength, metersLength, readingsLength, cellsLength}
 
@@ -74,9 +75,7 @@ mpanAt meters i = getD meters i 0
 
 -- the slot of an MPAN: the first below M that has it or is free, else M
 unfoldable pub slotFrom : ℕ → List ℕ → ℕ → ℕ → ℕ
-slotFrom mpan meters zero i = i
-slotFrom mpan meters (suc n) i =
-    let rest = slotFrom mpan meters n (suc i) in cond (eqb (mpanAt meters i) mpan || eqb (mpanAt meters i) 0) i rest
+slotFrom mpan meters n i = firstFrom (λ k. eqb (mpanAt meters k) mpan || eqb (mpanAt meters k) 0) n i
 
 unfoldable pub slotOf : ℕ → ℕ → List ℕ → ℕ
 slotOf M mpan meters = slotFrom mpan meters M 0

@@ -11,11 +11,10 @@ use lib.Dec.{leb, eqb}
 use lib.IntN.{ℤ, pos, _-ℤ_}
 use Rattle.metering.specs.Sum.{sumBelow, sumBelow-zero, sumBelow-suc}
 use Rattle.ledger.specs.Method.{Flag, A, D, E, N, Cell, isBlank, overRunDates}
-use Rattle.ledger.specs.Table.{tabulate, filling}
 use Rattle.ledger.specs.Net.{sumOver, anyOf, isN, netPeriod, markOf, netTot, netTot7, netOn}
 use Rattle.ledger.specs.Store.{periodsOf, rowLength, isRunAt}
-use Rattle.ledger.specs.Calls.{cellFor, overwritten}
-use Rattle.ledger.proofs.Lists.{length-tabulate, tabulate-ext, sumBelow-more, sumBelow-none, sumBelow-cong}
+use Rattle.ledger.specs.Calls.{cellFor}
+use Rattle.ledger.proofs.Lists.{written-is, sumBelow-more, sumBelow-none, sumBelow-cong}
 use Rattle.ledger.proofs.Nets.{signed-minus, sumOver-append, sumOver-alike, sumOver-plus, sum-exchange, totOf, tot7-minus}
 use Rattle.store.specs.declared.column.Column.{Column}
 use Rattle.store.specs.Column.{columnOf, beside, cellIn, runIn}
@@ -69,12 +68,6 @@ day-small s low = omega (arith, s .small)
 
 pub week-small : {members : List ℕ} {n r : ℕ} {f : ℕ → ℕ} → SummedFirst members n 2473901161920 f r → n ≤ 64 → r ≤ 158329674362880
 week-small s low = omega (arith, s .small)
-
--- ---- the lists that are written
-
-written-is : {A : Type 0} (n : ℕ) (f g : ℕ → A) (xs ys : List A) → ys ≡ filling n f xs → ((k : ℕ) → f k ≡ g k) → ys ≡ overwritten (tabulate n g) xs
-unfolding filling overwritten
-written-is n f g xs ys e same = e ∙ rw (length-tabulate n g, tabulate-ext n f g (λ k l. same k))
 
 -- ---- the net of a date
 
@@ -133,8 +126,8 @@ module _ (cells : List ℕ) (column : Column) (d : ℕ) where
         record {
           day = t ∙ day-is import export (day .imported .is) (day .exported .is);
           week = t7 ∙ week-is import export import-before export-before r (day .imported .is) (day .exported .is) b o;
-          nets-are = written-is (column .periods) _ _ numbers numbers′ (day .nets-are) net-is;
-          marks-are = written-is (column .periods) _ _ marks marks′ (day .marks-are) mark-is;
+          nets-are = written-is (column .periods) _ _ numbers numbers′ (day .nets-are) (λ k l. net-is k);
+          marks-are = written-is (column .periods) _ _ marks marks′ (day .marks-are) (λ k l. mark-is k);
         }
 
 -- ---- the column that the settings name

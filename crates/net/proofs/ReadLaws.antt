@@ -6,26 +6,26 @@ use mathlib.Core.List.{List, [], _∷_}
 use native.Mathlib.Omega.{arith}
 use native.Mathlib.Nat.{not-suc-le-zero}
 use lib.IntN.{ℤ}
-use lib.ListN.{length, getD, take, drop}
-use lib.Seq.{getD-take, take-at}
+use lib.ListN.{length, getD, take}
+use lib.Seq.{getD-take}
 use Rattle.ledger.specs.Net.{activeImport, activeExport, sideOf, Net, netOn}
 use Rattle.ledger.specs.Checks.{mayNet}
 use Rattle.ledger.specs.Ledger.{answer, left, refused, netIs}
 use Rattle.ledger.specs.Store.{categoriesOf, periodsOf, rowLength, isRunAt}
 use Rattle.ledger.specs.Calls.{cellFor, sideFor, netVerdict, netFor, overwritten}
 use Rattle.ledger.specs.Engine.{Every}
-use Rattle.ledger.proofs.Lists.{length-tabulate}
+use Rattle.ledger.proofs.Lists.{length-tabulate, front-is}
 use Rattle.ledger.proofs.Chosen.{chosen-below}
 use Rattle.ledger.proofs.Verdicts.{refused-is, kept-is, given-is, after-is}
 use Rattle.store.specs.declared.column.Column.{Column}
 use Rattle.store.specs.Column.{columnOf}
 use Rattle.reads.specs.ReadAccepted.{ReadAccepted}
-use Rattle.reads.proofs.CheckLaws.{passed-reaches, passed-run}
+use Rattle.reads.proofs.CheckLaws.{passed-reaches, passed-run, rangeNumber}
 use Rattle.net.specs.Asked.{netCall}
 use Rattle.net.specs.Sides.{Listed, pairedWith}
 use Rattle.net.specs.Walk.{Among, MayWrite, NetWritten}
 use Rattle.net.proofs.SideLaws.{found-count}
-use Rattle.net.proofs.CheckLaws.{rangeNumber, range-decides, pair-decides}
+use Rattle.net.proofs.CheckLaws.{range-decides, pair-decides}
 
 -- ---- members
 
@@ -98,10 +98,6 @@ module _ (s cells : List ℕ) (allGroups : Bool) (date category : ℕ) (numbers 
   unfolding netFor netOn
   marks-long = length-tabulate (periodsOf s) _
 
-  front-is : {A : Type 0} (results lent list : List A) → length results ≡ periodsOf s → list ≡ overwritten results lent → take (periodsOf s) list ≡ results
-  unfolding overwritten
-  front-is results lent list n e = rw e (take-at results (drop (length results) lent) (periodsOf s) n)
-
   pub accepts : (tot tot7 : ℤ) (numbers′ : List ℤ) (marks′ : List ℕ) (imports exports : List ℕ) (importCount exportCount m : ℕ) →
       m ≡ netVerdict s cells (netCall allGroups date category numbers marks) .number → m ≡ 0 →
       Listed (sideFor s allGroups activeImport category) imports importCount →
@@ -119,8 +115,8 @@ module _ (s cells : List ℕ) (allGroups : Bool) (date category : ℕ) (numbers 
       record {
         tot = written .day x;
         tot7 = written .week x;
-        periods = front-is (net .periods) numbers numbers′ periods-long (written .nets-are) x;
-        marks = front-is (net .marks) marks marks′ marks-long (written .marks-are) x;
+        periods = front-is (net .periods) numbers numbers′ (periodsOf s) periods-long (written .nets-are) x;
+        marks = front-is (net .marks) marks marks′ (periodsOf s) marks-long (written .marks-are) x;
       } in (
         ap netIs same ∙ given-is _ m is _ none,
         (written .nets-are ∙ after-is _ m is _ _ none, written .marks-are ∙ after-is _ m is _ _ none),

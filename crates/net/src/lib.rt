@@ -1,12 +1,12 @@
 // The net read (change request 2026-13): import less export, for each period of a date, for the date and for its week. Both sides are found before a cell is read.
 use crate::checks::pair_number;
-use crate::checks::range_number;
 use crate::periods::difference;
 use crate::periods::write_periods;
 use crate::sides::ACTIVE_EXPORT;
 use crate::sides::ACTIVE_IMPORT;
 use crate::sides::members;
 use crate::week::earlier_sum;
+use reads::checks::range_number;
 use store::column::Column;
 use store::column::column_of;
 use store::outcome::Net;

@@ -1,25 +1,22 @@
 -- The checks of a read: what holds where they pass, and which number they give.
 use Prim.Native.Nat.{ℕ, suc, _≤_, _<_}
 use mathlib.Core.Path.{_≡_, refl, _∙_}
-use mathlib.Core.Bool.{Bool, true, false, not, _&&_, cond, and-eq-true-iff}
+use mathlib.Core.Bool.{Bool, true, false, not, _&&_, _||_, cond, and-eq-true-iff}
 use mathlib.Core.List.{List}
 use native.Mathlib.Omega.{arith}
-use borrow.Author.Tests.{leb-true, leb-false, ltb-true, eqb-false, ne-eqb, not-false}
-use lib.Dec.{leb, eqb}
+use borrow.Author.Tests.{leb-true, leb-false, ltb-true, ltb-false, ne-eqb, not-false}
+use lib.Dec.{leb}
 use Rattle.metering.specs.Range.{between}
-use Rattle.ledger.specs.Checks.{firstNumber, runCheck, readCheck, totalsInRange, cellInRange}
-use Rattle.ledger.specs.Store.{datesOf, periodsOf, rowLength, settingsReady, cellsReady}
+use Rattle.ledger.specs.Checks.{firstNumber, runCheck, readCheck, totalsInRange, cellInRange, resultsShort}
+use Rattle.ledger.specs.Store.{categoriesOf, datesOf, periodsOf, rowLength, settingsReady, cellsReady}
 use Rattle.ledger.specs.Calls.{cellsUnready, totalsVerdict, cellVerdict}
+use Rattle.ledger.proofs.Choices.{check-passed, neither}
 use Rattle.store.specs.declared.column.Column.{Column}
 use Rattle.store.specs.Column.{columnOf, runIn, Reaches}
 use Rattle.store.proofs.ColumnLaws.{column-reaches}
 use Rattle.reads.specs.ReadAccepted.{ReadAccepted}
 
 -- ---- what holds where the checks pass
-
-passed-by : (b : Bool) (n x : ℕ) → eqb n 0 ≡ false → cond b n x ≡ 0 → (b ≡ false) × (x ≡ 0)
-passed-by true n x some e = absurd (eqb-false n 0 some e)
-passed-by false n x some e = (refl, e)
 
 passed-both : (a b : Bool) → not (a && b) ≡ false → (a ≡ true) × (b ≡ true)
 passed-both a b h = and-eq-true-iff a b .0 (not-false (a && b) h)
@@ -30,18 +27,18 @@ module _ (settings cells : List ℕ) (d : ℕ) where
       (settingsReady settings ≡ true) × (cellsReady settings cells ≡ true) × (d < datesOf settings)
   unfolding runCheck cellsUnready
   date-passed h =
-      let p = passed-by _ 1 _ refl h in
-      let q = passed-by _ 9 0 refl (p .1) in
+      let p = check-passed _ 0 _ h in
+      let q = check-passed _ 8 0 (p .1) in
       let r = passed-both _ _ (p .0) in
       (r .0, r .1, leb-false _ _ (q .0))
 
   pub totals-passed : (c : ℕ) → totalsVerdict settings cells d c .number ≡ 0 → ReadAccepted settings cells d c
   unfolding totalsVerdict readCheck cellsUnready totalsInRange
   totals-passed c h =
-      let p = passed-by _ 1 _ refl h in
-      let q = passed-by _ 9 _ refl (p .1) in
-      let t = passed-by _ 15 _ refl (q .1) in
-      let u = passed-by _ 14 0 refl (t .1) in
+      let p = check-passed _ 0 _ h in
+      let q = check-passed _ 8 _ (p .1) in
+      let t = check-passed _ 14 _ (q .1) in
+      let u = check-passed _ 13 0 (t .1) in
       let r = passed-both _ _ (p .0) in
       record {
         opened = r .0;
@@ -55,10 +52,10 @@ module _ (settings cells : List ℕ) (d : ℕ) where
       (c j : ℕ) → cellVerdict settings cells d c j .number ≡ 0 → ReadAccepted settings cells d c × (1 ≤ j) × (j ≤ periodsOf settings)
   unfolding cellVerdict readCheck cellsUnready cellInRange between
   cell-passed c j h =
-      let p = passed-by _ 1 _ refl h in
-      let q = passed-by _ 9 _ refl (p .1) in
-      let t = passed-by _ 15 _ refl (q .1) in
-      let u = passed-by _ 14 0 refl (t .1) in
+      let p = check-passed _ 0 _ h in
+      let q = check-passed _ 8 _ (p .1) in
+      let t = check-passed _ 14 _ (q .1) in
+      let u = check-passed _ 13 0 (t .1) in
       let r = passed-both _ _ (p .0) in
       let v = passed-both _ _ (t .0) in
       let w = and-eq-true-iff _ _ .0 (v .1) in (
@@ -80,6 +77,42 @@ module _ (settings cells : List ℕ) (d : ℕ) where
     pub passed-run : runIn column cells d ≡ true
     unfolding rowLength
     passed-run = rw e (p .run)
+
+-- what holds of the parts and of the two lists where 1 is not given
+pub record Long (settings cells : List ℕ) (first second : ℕ) : Type 0 where
+  pub opened : settingsReady settings ≡ true
+  pub complete : cellsReady settings cells ≡ true
+  pub first-long : periodsOf settings ≤ first
+  pub second-long : periodsOf settings ≤ second
+
+module _ (settings cells : List ℕ) (first second : ℕ) where
+  pub long : (cellsUnready settings cells || resultsShort (periodsOf settings) first second) ≡ false → Long settings cells first second
+  unfolding cellsUnready resultsShort
+  long e =
+      let both = neither _ _ e in
+      let parts = and-eq-true-iff (settingsReady settings) (cellsReady settings cells) .0 (not-false _ (both .0)) in
+      let lists = neither _ _ (both .1) in
+      record { opened = parts .0; complete = parts .1; first-long = ltb-false _ _ (lists .0); second-long = ltb-false _ _ (lists .1) }
+
+  abbrev pub rangeNumber : ℕ → ℕ → ℕ
+  rangeNumber date category =
+      cond (cellsUnready settings cells || resultsShort (periodsOf settings) first second) 1
+      (cond (leb (datesOf settings) date) 9 (cond (not (totalsInRange (categoriesOf settings) category)) 15 0))
+
+  pub range-passed : (date category : ℕ) → rangeNumber date category ≡ 0 →
+      Long settings cells first second × (date < datesOf settings) × (category < categoriesOf settings)
+  unfolding totalsInRange
+  range-passed date category e =
+      let p1 = check-passed (cellsUnready settings cells || resultsShort (periodsOf settings) first second) 0 _ e in
+      let p9 = check-passed (leb (datesOf settings) date) 8 _ (p1 .1) in
+      let p15 = check-passed _ 14 0 (p9 .1) in
+      (long (p1 .0), leb-false _ _ (p9 .0), ltb-true _ _ (not-false _ (p15 .0)))
+
+  -- so the category's column reaches past the date's cells
+  pub range-reaches : (date category : ℕ) {column : Column} → column ≡ columnOf settings category → rangeNumber date category ≡ 0 → Reaches cells column date
+  range-reaches date category e z =
+      let ok = range-passed date category z in
+      rw e (column-reaches settings cells date category (ok .0 .opened) (ok .0 .complete) (ok .1) (ok .2))
 
 -- ---- which number they give
 

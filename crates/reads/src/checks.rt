@@ -1,4 +1,4 @@
-// The checks of both reads, each as the number of its refusal: 0 says that it passed.
+// The checks of reads, each as the number of its refusal: 0 says that it passed.
 use metering::range::between;
 use settings::header::category_count;
 use settings::header::date_count;
@@ -7,10 +7,10 @@ use store::column::column_of;
 use store::column::ran_on;
 use store::lent::cells_unready;
 ghost use mathlib.Core.Path.{_≡_};
-ghost use mathlib.Core.Bool.{true, not, cond};
+ghost use mathlib.Core.Bool.{true, not, _||_, cond};
 ghost use Prim.Native.Nat.{_<_};
 ghost use lib.Dec.{leb};
-ghost use Rattle.ledger.specs.Checks.{firstNumber, runCheck, totalsInRange, cellInRange};
+ghost use Rattle.ledger.specs.Checks.{firstNumber, runCheck, totalsInRange, cellInRange, resultsShort};
 ghost use Rattle.ledger.specs.Store.{categoriesOf, datesOf, periodsOf, rowLength, settingsReady, cellsReady, isRunAt};
 ghost use Rattle.ledger.specs.Calls.{cellsUnready, totalsVerdict, cellVerdict};
 
@@ -24,7 +24,7 @@ pub fn first_number(first: u64, second: u64) -> u64
 }
 
 // 9: no such date.
-pub fn date_number(settings: &[u8], date: u64) -> u64
+fn date_number(settings: &[u8], date: u64) -> u64
     requires { ⌜ settingsReady (now settings) ≡ true ⌝ }
     ensures { λ r. ⌜ r ≡ cond (leb (datesOf (now (settings .entry))) date) 9 0 ⌝ }
 {
@@ -53,6 +53,39 @@ pub fn category_number(settings: &[u8], category: u64) -> u64
         return 0;
     }
     15
+}
+
+// Whether a part is too short, or one of two lists that take P entries each, or the store is unopened. The lists are told by their lengths.
+fn too_short(settings: &[u8], cells: &[u64], first: u64, second: u64) -> bool
+    ensures { λ r. ⌜ r ≡ (cellsUnready (now (settings .entry)) (now (cells .entry)) || resultsShort (periodsOf (now (settings .entry))) first second) ⌝ }
+{
+    if cells_unready(settings, cells) {
+        return true;
+    }
+    let periods = period_count(settings);
+    if first < periods {
+        return true;
+    }
+    second < periods
+}
+
+// 1, of two such lists too, 9 and 15.
+pub fn range_number(
+    settings: &[u8],
+    cells: &[u64],
+    date: u64,
+    category: u64,
+    first: u64,
+    second: u64,
+) -> u64
+    ensures { λ r. ⌜ r ≡ cond (cellsUnready (now (settings .entry)) (now (cells .entry)) || resultsShort (periodsOf (now (settings .entry))) first second) 1 (cond (leb (datesOf (now (settings .entry))) date) 9 (cond (not (totalsInRange (categoriesOf (now (settings .entry))) category)) 15 0)) ⌝ }
+{
+    if too_short(settings, cells, first, second) {
+        return 1;
+    }
+    let date_failed = date_number(settings, date);
+    let category_failed = category_number(settings, category);
+    first_number(date_failed, category_failed)
 }
 
 // 15, for a cell read.

@@ -10,6 +10,7 @@ ghost use Rattle.settings.specs.Access.{Byte};
 ghost use Rattle.ledger.specs.Sizes.{headerLength};
 ghost use Rattle.ledger.specs.Method.{isSmart, sameFamily};
 ghost use Rattle.ledger.specs.Net.{withQuantity, onSide};
+ghost use Rattle.ledger.specs.Fill.{isOptedOutShape};
 ghost use Rattle.ledger.specs.Store.{categoriesOf, datesOf, categoryOf, dayTypeOf, settingsReady};
 
 fn category_byte(settings: &[u8], category: u64, k: u64) -> u64
@@ -87,6 +88,32 @@ pub fn on_side(settings: &[u8], all_groups: bool, quantity: u64, a: u64, b: u64)
         return true;
     }
     category_byte(settings, a, 1) == category_byte(settings, b, 1)
+}
+
+// Whether the category is the Smart domestic one that an opted-out meter with these takes.
+pub fn is_opted_out_shape(
+    settings: &[u8],
+    category: u64,
+    group: u64,
+    quantity: u64,
+    connection: u64,
+) -> bool
+    requires { ⌜ (settingsReady (now settings) ≡ true) × (category < categoriesOf (now settings)) ⌝ }
+    ensures { λ r. ⌜ r ≡ isOptedOutShape group quantity connection (categoryOf (now (settings .entry)) category) ⌝ }
+{
+    if !is_smart(settings, category) {
+        return false;
+    }
+    if category_byte(settings, category, 2) != 1 {
+        return false;
+    }
+    if category_byte(settings, category, 1) != group {
+        return false;
+    }
+    if category_byte(settings, category, 3) != quantity {
+        return false;
+    }
+    category_byte(settings, category, 4) == connection
 }
 
 pub fn day_type(settings: &[u8], date: u64) -> u64

@@ -4,7 +4,7 @@ use mathlib.Core.List.{List}
 use lib.IntN.{ℤ}
 use lib.ListN.{take}
 use Rattle.ledger.specs.Method as method
-use Rattle.ledger.specs.Ledger.{Answer, refused, accepted, moved, totalsAre, cellIs, netIs, bandIs}
+use Rattle.ledger.specs.Ledger.{Answer, refused, accepted, moved, totalsAre, cellIs, netIs, bandIs, filledAre}
 use Rattle.entries.specs.Cell.{cellMeant}
 use Rattle.store.specs.declared.outcome.Outcome.{Outcome}
 use Rattle.store.specs.declared.outcome.Outcome.the-variants as outcome
@@ -61,3 +61,8 @@ netAnswer P (net.Refused number place) numbers marks = refused number place
 abbrev pub bandAnswer : BandOutcome → List ℕ → Answer
 bandAnswer (band.Band b) dates = bandIs (record { written = b .written; found = b .found; dates = take (b .written) dates })
 bandAnswer (band.Refused number place) dates = refused number place
+
+-- the first P numbers as the list then has them
+abbrev pub fillAnswer : ℕ → Outcome → List ℕ → Answer
+fillAnswer P outcome.Accepted filled = filledAre (take P filled)
+fillAnswer P (outcome.Refused number place) filled = refused number place

@@ -1,7 +1,7 @@
 // What each call answers. Every refusal has its number and place.
 use entries::cell::Cell;
 
-// A call that gives nothing but acceptance: opening, registration, reception.
+// A call that gives nothing but acceptance: opening, registration, reception; and a fill, whose values stand in the list lent for them.
 pub enum Outcome {
     Accepted,
     Refused { number: u64, place: u64 },

@@ -8,7 +8,8 @@ use Rattle.ledger.specs.Store.{categoriesOf, datesOf}
 use Rattle.ledger.specs.Calls.{netVerdict}
 use Rattle.reads.specs.ReadAccepted.{ReadAccepted}
 use Rattle.net.specs.Asked.{netCall}
-use Rattle.net.proofs.CheckLaws.{Long, range-passed, pair-passed}
+use Rattle.reads.proofs.CheckLaws.{Long, range-passed}
+use Rattle.net.proofs.CheckLaws.{pair-passed}
 use Rattle.net.proofs.NetLaws.{net-asked}
 use Rattle.net.proofs.ReadLaws.{may-write, refuses, by-range, by-pair, accepts}
 use Rattle.net.proofs.read_net.Statement.{statement}
@@ -93,7 +94,7 @@ net-of-requires c κs =
     let m = found (pair .before) in
     let a = start (ranged m) .args in
     let ok = in-range (ranged m) in
-    may-write (now (a .settings)) (now (a .cells)) (a .all-groups) (a .date) (a .category) (col .column-of .ensures) (passed pair) (col .before .members2 .ensures) (m .members .ensures) (ok .0 .numbers-long) (ok .0 .marks-long)
+    may-write (now (a .settings)) (now (a .cells)) (a .all-groups) (a .date) (a .category) (col .column-of .ensures) (passed pair) (col .before .members2 .ensures) (m .members .ensures) (ok .0 .first-long) (ok .0 .second-long)
 
 same-length : tie.Need-same-length
 same-length c = search needs

@@ -3,8 +3,8 @@ use borrow.Author.Needs.{needs}
 use borrow.Author.Tests.{lt-ltb, le-ltb}
 use Rattle.ledger.specs.Checks.{resultsShort}
 use Rattle.store.proofs.ColumnLaws.{cells-lent}
-use Rattle.net.proofs.checks.too_short.Statement.{statement}
-use Rattle.net.proofs.checks.too_short.Tie as tie
+use Rattle.reads.proofs.checks.too_short.Statement.{statement}
+use Rattle.reads.proofs.checks.too_short.Tie as tie
 
 cells-unready-requires : tie.Need-cells-unready-requires
 cells-unready-requires c κs = search needs

@@ -5,10 +5,9 @@ use borrow.Author.Needs.{needs}
 use denote.Ref.{now}
 use lib.Dec.{leb}
 use Rattle.ledger.specs.Store.{settingsReady, datesOf}
-use Rattle.reads.proofs.CheckLaws.{first-number}
-use Rattle.net.proofs.CheckLaws.{long}
-use Rattle.net.proofs.checks.range_number.Statement.{statement}
-use Rattle.net.proofs.checks.range_number.Tie as tie
+use Rattle.reads.proofs.CheckLaws.{first-number, long}
+use Rattle.reads.proofs.checks.range_number.Statement.{statement}
+use Rattle.reads.proofs.checks.range_number.Tie as tie
 
 abbrev start : tie.Else1 → tie.Start
 start c = c .before .before .before .before

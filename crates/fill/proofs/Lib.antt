@@ -1,0 +1,3 @@
+-- Laws that the proofs of a fill share.
+pub mod SharingLaws
+pub mod ReadLaws

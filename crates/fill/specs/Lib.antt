@@ -1,0 +1,3 @@
+-- What the contracts of a fill say beyond the ledger crate's definitions.
+pub mod Asked
+pub mod Sharing
