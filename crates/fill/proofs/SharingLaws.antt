@@ -95,7 +95,7 @@ next-handed parts remainders t spare k so f = rw (f .is, so)
 -- ---- the threshold
 
 -- no remainder reaches what all are below
-pub none-above : (n : ℕ) (remainder : ℕ → ℕ) (t left : ℕ) → ((k : ℕ) → k < n → remainder k < t) → reaching n remainder (suc t) ≤ left
+none-above : (n : ℕ) (remainder : ℕ → ℕ) (t left : ℕ) → ((k : ℕ) → k < n → remainder k < t) → reaching n remainder (suc t) ≤ left
 unfolding reaching
 none-above n remainder t left h =
     let none = sumBelow-none n (λ k. cond (leb (suc t) (remainder k)) 1 0) (λ k l. let low = h k l in rw (lt-leb (suc t) (remainder k) (omega arith))) in omega arith
@@ -128,15 +128,15 @@ module _ {n : ℕ} {remainder : ℕ → ℕ} {left most low high : ℕ} (b : Bet
         let top = b .bounded in
         record { above = omega arith; within = omega arith; low = omega arith }
 
-    pub upper-half : above < left → Between n remainder left most low middle
-    upper-half few =
+    pub to-middle : above < left → Between n remainder left most low middle
+    to-middle few =
         let at = halfway low high taken in
         let here = reached in
         let top = b .bounded in
         record { ordered = omega arith; bounded = omega arith; above = omega arith; within = b .within }
 
-    pub lower-half : (above ≡ left → ⊥) → left ≤ above → Between n remainder left most (middle + 1) high
-    lower-half other many =
+    pub from-middle : (above ≡ left → ⊥) → left ≤ above → Between n remainder left most (middle + 1) high
+    from-middle other many =
         let at = halfway low high taken in
         record { ordered = omega arith; bounded = b .bounded; above = b .above; within = omega (arith, is) }
 

@@ -17,7 +17,7 @@ use Rattle.reads.specs.Figures.{valueAfter}
 abbrev pub weightIn : Column → List ℕ → ℕ → List ℕ → ℕ → ℕ
 weightIn column cells d marks = weightBy marks (valueAfter column cells d)
 
--- ---- before a division: `sum` is that of the weights, and an advance has 32 bits
+-- ---- before a division: `sum` is that of the weights, 96 of 32 bits at most, and an advance has 32 bits
 
 pub record MayShare (cells : List ℕ) (column : Column) (d : ℕ) (marks : List ℕ) (sum advance : ℕ) : Type 0 where
   pub reaches : Reaches cells column d

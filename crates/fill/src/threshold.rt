@@ -1,11 +1,11 @@
 // The threshold that tells who gets one of the Wh left over: at most as many remainders are above it, and at least as many reach it.
-ghost use Prim.Native.Nat.{suc, _≤_};
+ghost use Prim.Native.Nat.{_≤_};
 ghost use mathlib.Core.Path.{_≡_};
 ghost use mathlib.Core.Bool.{cond};
 ghost use lib.Dec.{leb};
 ghost use lib.ListN.{length, getD};
 ghost use Rattle.ledger.specs.Threshold.{reaching};
-ghost use Rattle.reads.specs.Sums.{Figure, Summed};
+ghost use Rattle.reads.specs.Sums.{Figure};
 ghost use Rattle.fill.specs.Sharing.{MaySearch, Tells};
 
 fn one_if(remainder: u64, least: u64) -> u64

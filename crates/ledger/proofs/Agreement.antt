@@ -10,7 +10,7 @@ use borrow.Table.Steps.{cases}
 use borrow.Author.Tests.{eqb-true, leb-false, ltb-true, ltb-false, not-false}
 use Rattle.metering.specs.Laws.{between-true}
 use Rattle.metering.specs.Range.{between}
-use Rattle.ledger.specs.Checks.{RegistrationCall, ReceptionCall, Verdict, verdict, orElse, firstNumber, callNumber, registrationCheck, receptionCheck, runCheck, readCheck, totalsInRange, cellInRange, NetCall, resultsShort, mayNet, netCheck, bandCheck, fillCheck}
+use Rattle.ledger.specs.Checks.{RegistrationCall, ReceptionCall, Verdict, verdict, orElse, firstNumber, callNumber, registrationCheck, receptionCheck, runCheck, readCheck, totalsInRange, cellInRange, NetCall, listsShort, mayNet, netCheck, bandCheck, fillCheck}
 use Rattle.ledger.specs.Band.{BandCall}
 use Rattle.ledger.specs.Fill.{FillCall}
 use Rattle.ledger.specs.Sizes.{metersLength, cellsLength}
@@ -293,7 +293,7 @@ module _ (whole : Lengths) (p : Parts) (l : Ledger) (agrees : Agrees whole p l) 
       (λ q. rw q)
       (λ q.
       let e = enough-cells q in
-      let lists : resultsShort (periodsOf S) (a .numbers) (a .marks) ≡ resultsShort (periods o) (a .numbers) (a .marks) = (unfold periodsOf in rw (e .0 .duration)) in
+      let lists : listsShort (periodsOf S) (a .numbers) (a .marks) ≡ listsShort (periods o) (a .numbers) (a .marks) = (unfold periodsOf in rw (e .0 .duration)) in
       rw (q, lists, e .0 .dates-are, e .0 .categories-are)
       (cases (leb (dates o) (a .date))
       (λ w. rw w)
@@ -306,12 +306,12 @@ module _ (whole : Lengths) (p : Parts) (l : Ledger) (agrees : Agrees whole p l) 
   net-value : (a : NetCall) → ledgerNetCheck l lent a .number ≡ 0 → netFor S C a ≡ netAt l a
   unfolding ledgerNetCheck netCheck totalsInRange
   net-value a e =
-      let p1 = check-passed (cellsShort o lent || resultsShort (periods o) (a .numbers) (a .marks)) 0 _ e in
+      let p1 = check-passed (cellsShort o lent || listsShort (periods o) (a .numbers) (a .marks)) 0 _ e in
       let p9 = check-passed (leb (dates o) (a .date)) 8 _ (p1 .1) in
       let p15 = check-passed (not (ltb (a .category) (categories o))) 14 _ (p9 .1) in
       let p26 = check-passed (not (mayNet (category o) (categories o) (a .allGroups) (a .category))) 25 _ (p15 .1) in
       let p14 = check-passed (not (isRun l (a .date))) 13 0 (p26 .1) in
-      let enough = enough-cells (neither _ (resultsShort (periods o) (a .numbers) (a .marks)) (p1 .0) .0) in
+      let enough = enough-cells (neither _ (listsShort (periods o) (a .numbers) (a .marks)) (p1 .0) .0) in
       net-is l S C (enough .0) (enough .1) (agrees .sound) a (leb-false (dates o) (a .date) (p9 .0)) (ltb-true (a .category) (categories o) (not-false _ (p15 .0))) (not-false (isRun l (a .date)) (p14 .0))
 
   net-step : (a : NetCall) → Step (readNet a)
@@ -336,7 +336,7 @@ module _ (whole : Lengths) (p : Parts) (l : Ledger) (agrees : Agrees whole p l) 
 
   -- 1 is for marks and result too
   abbrev fillShort : FillCall → Bool
-  fillShort a = cellsShort o lent || resultsShort (periods o) (length (a .marks)) (a .room)
+  fillShort a = cellsShort o lent || listsShort (periods o) (length (a .marks)) (a .room)
 
   abbrev fillRead : FillCall → ℕ
   fillRead a = readCheck (fillShort a) (dates o) (a .date) (totalsInRange (categories o) (shapeAt l a)) (isRun l (a .date))
@@ -355,7 +355,7 @@ module _ (whole : Lengths) (p : Parts) (l : Ledger) (agrees : Agrees whole p l) 
       rw (may-fill-is l S C (enough .0) (enough .1) (agrees .sound) a date (ltb-true _ (categories o) (unfold totalsInRange in range)) ran))
       (λ q. rw q))
     where
-      lists : (cellsUnready S C || resultsShort (periodsOf S) (length (a .marks)) (a .room)) ≡ fillShort a
+      lists : (cellsUnready S C || listsShort (periodsOf S) (length (a .marks)) (a .room)) ≡ fillShort a
       lists = rw cells-short (cases (cellsShort o lent) (λ q. rw q) (λ q. unfold periodsOf in rw (q, enough-cells q .0 .duration)))
 
   fill-value : (a : FillCall) → ledgerFillCheck l lent a .number ≡ 0 → fillFor S C a ≡ fillAt l a

@@ -17,7 +17,7 @@ use Rattle.ledger.specs.Method.{freshIn, cellFrom, latest, cellOf, cellO
 use Rattle.ledger.specs.Fill.{FillCall}
 use Rattle.ledger.specs.Checks.{Verdict, firstFailed, anyBelow, orElse, recordAt, sameKey, categoryNumber, dayTypeNumber, sizesValid, openingCheck, runCheck, readCheck, cellInRange}
 use Rattle.ledger.specs.Sizes.{settingsLength, metersLength, readingsLength, cellsLength}
-use Rattle.ledger.specs.Ledger.{Opening, categories, dates, periods, category, dayType, Ledger, start, Call, register, receive, run, readTotals, readCell, readNet, searchBand, fillHole, Answer, refused, moved, cellIs, filledAre, answer, left, Lengths, leastLengths, settingsShort, metersShort, cellsShort, anyShort, afterRegistration, afterReception, pictureOf, afterRun, movedBetween, cellBy, cellAt, dayOf, isPicture, isRun, ledgerRegistrationCheck, ledgerReceptionCheck, ledgerRunCheck, ledgerCellCheck, ledgerAnswer, ledgerAfter}
+use Rattle.ledger.specs.Ledger.{Opening, categories, dates, periods, category, dayType, Ledger, start, Call, register, receive, run, readTotals, readCell, readNet, searchBand, fillHole, Answer, refused, moved, cellIs, answer, left, Lengths, leastLengths, settingsShort, metersShort, cellsShort, anyShort, afterRegistration, afterReception, pictureOf, afterRun, movedBetween, cellBy, cellAt, dayOf, isPicture, isRun, ledgerRegistrationCheck, ledgerReceptionCheck, ledgerRunCheck, ledgerCellCheck, ledgerAnswer, ledgerAfter}
 use Rattle.ledger.specs.Calls.{openingVerdict}
 use Rattle.ledger.specs.Engine.{Parts, openedParts, Item, answersFrom, storeAnswers, cutLengths, ledgerAnswers, lengthsOf, BodyOfBytes, BodiesOfBytes, Every}
 use Rattle.ledger.specs.Demands.{ledgerAfterItems, ledgerBeside, LastAnswer, Accepts, EngineReceivesExactly, EngineRuns, Spares, EngineReadsMethod, shapeValue, Shared, Fills, EngineFills}

@@ -2,7 +2,7 @@
 use Prim.Native.Nat.{ℕ, zero, suc, _+_, _*_, _/_, _%_, _≤_, _<_}
 use mathlib.Core.Path.{_≡_, refl, sym, ap, _∙_}
 use mathlib.Core.Logic.{_≢_, _↔_, inl, inr, ⊎-elim}
-use mathlib.Core.Bool.{Bool, true, false, not, _||_, cond, and-eq-true-iff, true≢false}
+use mathlib.Core.Bool.{Bool, true, false, not, _||_, cond, and-eq-true-iff}
 use mathlib.Core.List.{List, [], _∷_}
 use native.Mathlib.Omega.{arith}
 use native.Mathlib.Nat.{add-zero, mod-lt, div-add-mod'}
@@ -18,7 +18,7 @@ use Rattle.ledger.specs.Table.{tabulate, firstFrom}
 use Rattle.ledger.specs.Net.{sumOver}
 use Rattle.ledger.specs.Fill.{ShapeOf, ofCategory, ofOptedOut, isOptedOutShape, shapeCategory, FillCall, weightBy, mayFill, comesBefore, countBefore, wholePart, remainderOf, leftOver, filledValue, filledValues}
 use Rattle.ledger.specs.Threshold.{reaching}
-use Rattle.ledger.specs.Checks.{openingCheck, resultsShort, readCheck, totalsInRange, fillCheck}
+use Rattle.ledger.specs.Checks.{openingCheck, listsShort, readCheck, totalsInRange, fillCheck}
 use Rattle.ledger.specs.Ledger.{Opening, categories, dates, periods, category, Ledger, filledAre, Lengths, cellsShort, shapeAt, weightAt, ledgerFillCheck, fillAt, ledgerAnswer, ledgerAfter}
 use Rattle.ledger.specs.Engine.{leaves}
 use Rattle.ledger.specs.Demands.{SameKey, CellsLong, OptedOutShape, HasShape, ShapeExact, IsMissing, missingSum, shapeValue, FillExact, Shared, FillUnique, Fills, FillShares, FillNear, FillAlone, LeftOverFew, FillWorked, FillLeavesAll}
@@ -155,7 +155,7 @@ fill-iff l a =
     )
 
 pub fill-exact : FillExact
-unfolding ledgerAnswer ledgerFillCheck fillCheck readCheck totalsInRange resultsShort shapeAt
+unfolding ledgerAnswer ledgerFillCheck fillCheck readCheck totalsInRange listsShort shapeAt
 fill-exact l n a =
     goes-by (ledgerFillCheck l n a) _ refl
     (finds-both

@@ -15,7 +15,7 @@ use Rattle.metering.specs.Sum.{sumBelow}
 use Rattle.ledger.specs.Method.{Category, isSmart, Flag, A, D, E, N, Cell, Fresh, absent, own, pooled, blank, carried, cellFrom, Day, notRun, ran, cellOf, cellOn, totOn, totalsOn}
 use Rattle.ledger.specs.Table.{tabulate, chosenBelow}
 use Rattle.ledger.specs.Net.{activeImport, activeExport, withQuantity, onSide, sideOf, sumOver, anyOf, signedSum, isN, netPeriod, markOf, netTot, netOn}
-use Rattle.ledger.specs.Checks.{openingCheck, resultsShort, mayNet, netCheck, totalsInRange}
+use Rattle.ledger.specs.Checks.{openingCheck, listsShort, mayNet, netCheck, totalsInRange}
 use Rattle.ledger.specs.Ledger.{Opening, categories, dates, periods, category, Ledger, cellsShort, cellBy, cellAt, isRun, dayOf, totalsAt, ledgerNetCheck, sideAt, netAt, ledgerAnswer}
 use Rattle.ledger.specs.Engine.{Every}
 use Rattle.ledger.specs.Demands.{SameKey, CellsLong, SameFamily, OnSide, SideExact, Paired, NetExact, OwnGroupPair, signedTotal, NetTotIsSum, NetOfTotals, OwnGroupNetOfTotals, MarkExact, NothingNetsToZero, SidesExchanged}
@@ -325,7 +325,7 @@ net-iff o allGroups c = (
 )
 
 pub net-exact : NetExact
-unfolding ledgerAnswer ledgerNetCheck netCheck totalsInRange resultsShort
+unfolding ledgerAnswer ledgerNetCheck netCheck totalsInRange listsShort
 net-exact l n a =
     goes-by (ledgerNetCheck l n a) _ refl
     (finds-row refl long-iff

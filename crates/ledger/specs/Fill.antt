@@ -1,6 +1,6 @@
 -- Filling a hole from a register advance (change request 2026-01): the advance, in Wh, goes to a date's missing periods by a category's shape.
 -- Below, k is how many periods come before one, so k is below P.
-use Prim.Native.Nat.{ℕ, zero, suc, _+_, _-_, _*_, _/_, _%_}
+use Prim.Native.Nat.{ℕ, _+_, _-_, _*_, _/_, _%_}
 use mathlib.Core.Bool.{Bool, not, _&&_, _||_, cond}
 use mathlib.Core.List.{List}
 use lib.Dec.{ltb, eqb}

@@ -10,7 +10,7 @@ use Rattle.ledger.specs.Method.{Category, ReadingSet, Picture, freshIn, 
 use Rattle.ledger.specs.Net.{activeImport, activeExport, sideOf, Net, netOn}
 use Rattle.ledger.specs.Band.{BandCall, Band, bandOn}
 use Rattle.ledger.specs.Fill.{FillCall, shapeCategory, weightBy, mayFill, filledValues}
-use Rattle.ledger.specs.Checks.{Registration, RegistrationCall, ReceptionCall, Verdict, verdict, registered, startOf, inForce, registrationCheck, receptionCheck, readingIn, anyBelow, runCheck, readCheck, totalsInRange, cellInRange, NetCall, resultsShort, mayNet, netCheck, bandCheck, fillCheck}
+use Rattle.ledger.specs.Checks.{Registration, RegistrationCall, ReceptionCall, Verdict, verdict, registered, startOf, inForce, registrationCheck, receptionCheck, readingIn, anyBelow, runCheck, readCheck, totalsInRange, cellInRange, NetCall, listsShort, mayNet, netCheck, bandCheck, fillCheck}
 use Rattle.ledger.specs.Sizes.{settingsLength, metersLength, readingsLength, cellsLength}
 pub use Rattle.ledger.specs.Opening.{Opening, categories, dates, periods, category, dayType}
 
@@ -234,7 +234,7 @@ totalsAt l d c =
 unfoldable pub ledgerNetCheck : Ledger → Lengths → NetCall → Verdict
 ledgerNetCheck l n a =
     verdict
-    (netCheck (cellsShort (l .opening) n || resultsShort (periods (l .opening)) (a .numbers) (a .marks)) (dates (l .opening)) (a .date)
+    (netCheck (cellsShort (l .opening) n || listsShort (periods (l .opening)) (a .numbers) (a .marks)) (dates (l .opening)) (a .date)
     (totalsInRange (categories (l .opening)) (a .category))
     (mayNet (category (l .opening)) (categories (l .opening)) (a .allGroups) (a .category))
     (isRun l (a .date)))
@@ -265,7 +265,7 @@ weightAt l a = weightBy (a .marks) (λ k. cellAt l (a .date) (shapeAt l a) (suc 
 unfoldable pub ledgerFillCheck : Ledger → Lengths → FillCall → Verdict
 ledgerFillCheck l n a =
     verdict
-    (fillCheck (cellsShort (l .opening) n || resultsShort (periods (l .opening)) (length (a .marks)) (a .room)) (dates (l .opening)) (a .date)
+    (fillCheck (cellsShort (l .opening) n || listsShort (periods (l .opening)) (length (a .marks)) (a .room)) (dates (l .opening)) (a .date)
     (totalsInRange (categories (l .opening)) (shapeAt l a))
     (isRun l (a .date))
     (mayFill (periods (l .opening)) (weightAt l a)))

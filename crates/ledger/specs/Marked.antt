@@ -17,7 +17,7 @@ use Rattle.ledger.specs.Table.{tabulate, chosenBelow, firstFrom}
 use Rattle.ledger.specs.Net.{onSide, sideOf, sumOver, anyOf, signedSum, netPeriod, markOf, netTot, netTot7, netOn}
 use Rattle.ledger.specs.Band.{inBand, bandDates, bandOn}
 use Rattle.ledger.specs.Fill.{ShapeOf, ofCategory, ofOptedOut, isOptedOutShape, shapeCategory, weightBy, mayFill, comesBefore, countBefore, wholePart, remainderOf, leftOver, filledValue, filledValues}
-use Rattle.ledger.specs.Checks.{firstFailed, anyBelow, orElse, firstNumber, callNumber, contentNumber, recordNumberIf, recordNumber, endMinute, quality, wattHoursAt, startOf, later, inForceAfter, inForce, notAfterLast, fieldsNumber, knownNumber, meterNumber, registrationCheck, headerNumber, bodyCheck, inForceCheck, receptionCheck, isReading, readingIn, runCheck, readCheck, totalsInRange, cellInRange, resultsShort, mayNet, netCheck, bandCheck, fillCheck}
+use Rattle.ledger.specs.Checks.{firstFailed, anyBelow, orElse, firstNumber, callNumber, contentNumber, recordNumberIf, recordNumber, endMinute, quality, wattHoursAt, startOf, later, inForceAfter, inForce, notAfterLast, fieldsNumber, knownNumber, meterNumber, registrationCheck, headerNumber, bodyCheck, inForceCheck, receptionCheck, isReading, readingIn, runCheck, readCheck, totalsInRange, cellInRange, listsShort, mayNet, netCheck, bandCheck, fillCheck}
 use Rattle.ledger.specs.Sizes.{settingsLength, metersLength, readingsLength, cellsLength}
 use Rattle.ledger.specs.Ledger.{Opening, Ledger, start, Call, register, receive, run, readTotals, readCell, readNet, searchBand, fillHole, Answer, refused, accepted, moved, totalsAre, netIs, bandIs, filledAre, answer, left, Lengths, leastLengths, settingsShort, metersShort, cellsShort, anyShort, meterWith, changed, heldFrom, ledgerRegistrationCheck, registerIn, afterRegistration, ledgerReceptionCheck, setOf, at, afterReception, cellBy, cellAt, isRun, ledgerRunCheck, pictureOf, afterRun, movedBetween, ledgerTotalsCheck, ledgerCellCheck, totalsAt, ledgerNetCheck, sideAt, netAt, ledgerBandCheck, bandAt, shapeAt, weightAt, ledgerFillCheck, fillAt, ledgerAnswer, ledgerAfter}
 use Rattle.ledger.specs.Engine.{Parts, openedParts, Item, storeAnswers, lengthsOf}
@@ -319,7 +319,7 @@ pub worked-examples :
     × (ledgerRun (start netOpening) (leastLengths netOpening) netCalls ≡ netAnswers)
     × (ledgerRun (start bandOpening) (leastLengths bandOpening) bandCalls ≡ bandAnswers)
     × (ledgerRun (start fillOpening) (leastLengths fillOpening) fillCalls ≡ fillAnswers)
-unfolding ledgerRun start ledgerAnswer ledgerAfter answer left settingsShort metersShort cellsShort anyShort meterWith changed heldFrom ledgerRegistrationCheck registerIn afterRegistration ledgerReceptionCheck setOf at afterReception cellBy cellAt isRun ledgerRunCheck pictureOf afterRun movedBetween ledgerTotalsCheck ledgerCellCheck totalsAt settingsLength metersLength readingsLength cellsLength firstFailed startOf later inForceAfter inForce notAfterLast meterNumber registrationCheck bodyCheck inForceCheck receptionCheck isReading readingIn runCheck readCheck totalsInRange cellInRange movedCell overRunDates totOn offOn peakOn totalsOn categoryAt mpanValid checkDigit weightedSum product digit weights sumBelow average annual recordNumber periodEnding periodsPerDay liesWithin windowStart windowEnd between sameCell blank cellOn cellOf cellFrom latest afterDate freshIn freshOf isEnough total isSmart sameFamily anyBelow endMinute quality wattHoursAt carried netCheck resultsShort mayNet ledgerNetCheck sideAt netAt onSide chosenBelow sideOf sumOver anyOf signedSum netPeriod markOf netTot netTot7 netOn tabulate orElse firstNumber callNumber fieldsNumber knownNumber headerNumber recordNumberIf contentNumber bandCheck ledgerBandCheck bandAt bandOn bandDates inBand dayTypeValid fillCheck ledgerFillCheck shapeAt weightAt fillAt isOptedOutShape shapeCategory firstFrom weightBy mayFill comesBefore countBefore wholePart remainderOf leftOver filledValue filledValues
+unfolding ledgerRun start ledgerAnswer ledgerAfter answer left settingsShort metersShort cellsShort anyShort meterWith changed heldFrom ledgerRegistrationCheck registerIn afterRegistration ledgerReceptionCheck setOf at afterReception cellBy cellAt isRun ledgerRunCheck pictureOf afterRun movedBetween ledgerTotalsCheck ledgerCellCheck totalsAt settingsLength metersLength readingsLength cellsLength firstFailed startOf later inForceAfter inForce notAfterLast meterNumber registrationCheck bodyCheck inForceCheck receptionCheck isReading readingIn runCheck readCheck totalsInRange cellInRange movedCell overRunDates totOn offOn peakOn totalsOn categoryAt mpanValid checkDigit weightedSum product digit weights sumBelow average annual recordNumber periodEnding periodsPerDay liesWithin windowStart windowEnd between sameCell blank cellOn cellOf cellFrom latest afterDate freshIn freshOf isEnough total isSmart sameFamily anyBelow endMinute quality wattHoursAt carried netCheck listsShort mayNet ledgerNetCheck sideAt netAt onSide chosenBelow sideOf sumOver anyOf signedSum netPeriod markOf netTot netTot7 netOn tabulate orElse firstNumber callNumber fieldsNumber knownNumber headerNumber recordNumberIf contentNumber bandCheck ledgerBandCheck bandAt bandOn bandDates inBand dayTypeValid fillCheck ledgerFillCheck shapeAt weightAt fillAt isOptedOutShape shapeCategory firstFrom weightBy mayFill comesBefore countBefore wholePart remainderOf leftOver filledValue filledValues
 worked-examples = (refl, refl, refl, refl)
 
 -- ---- the same on the engine, from its opening on

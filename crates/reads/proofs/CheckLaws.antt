@@ -7,7 +7,7 @@ use native.Mathlib.Omega.{arith}
 use borrow.Author.Tests.{leb-true, leb-false, ltb-true, ltb-false, ne-eqb, not-false}
 use lib.Dec.{leb}
 use Rattle.metering.specs.Range.{between}
-use Rattle.ledger.specs.Checks.{firstNumber, runCheck, readCheck, totalsInRange, cellInRange, resultsShort}
+use Rattle.ledger.specs.Checks.{firstNumber, runCheck, readCheck, totalsInRange, cellInRange, listsShort}
 use Rattle.ledger.specs.Store.{categoriesOf, datesOf, periodsOf, rowLength, settingsReady, cellsReady}
 use Rattle.ledger.specs.Calls.{cellsUnready, totalsVerdict, cellVerdict}
 use Rattle.ledger.proofs.Choices.{check-passed, neither}
@@ -86,8 +86,8 @@ pub record Long (settings cells : List ℕ) (first second : ℕ) : Type 0 where
   pub second-long : periodsOf settings ≤ second
 
 module _ (settings cells : List ℕ) (first second : ℕ) where
-  pub long : (cellsUnready settings cells || resultsShort (periodsOf settings) first second) ≡ false → Long settings cells first second
-  unfolding cellsUnready resultsShort
+  pub long : (cellsUnready settings cells || listsShort (periodsOf settings) first second) ≡ false → Long settings cells first second
+  unfolding cellsUnready listsShort
   long e =
       let both = neither _ _ e in
       let parts = and-eq-true-iff (settingsReady settings) (cellsReady settings cells) .0 (not-false _ (both .0)) in
@@ -96,14 +96,14 @@ module _ (settings cells : List ℕ) (first second : ℕ) where
 
   abbrev pub rangeNumber : ℕ → ℕ → ℕ
   rangeNumber date category =
-      cond (cellsUnready settings cells || resultsShort (periodsOf settings) first second) 1
+      cond (cellsUnready settings cells || listsShort (periodsOf settings) first second) 1
       (cond (leb (datesOf settings) date) 9 (cond (not (totalsInRange (categoriesOf settings) category)) 15 0))
 
   pub range-passed : (date category : ℕ) → rangeNumber date category ≡ 0 →
       Long settings cells first second × (date < datesOf settings) × (category < categoriesOf settings)
   unfolding totalsInRange
   range-passed date category e =
-      let p1 = check-passed (cellsUnready settings cells || resultsShort (periodsOf settings) first second) 0 _ e in
+      let p1 = check-passed (cellsUnready settings cells || listsShort (periodsOf settings) first second) 0 _ e in
       let p9 = check-passed (leb (datesOf settings) date) 8 _ (p1 .1) in
       let p15 = check-passed _ 14 0 (p9 .1) in
       (long (p1 .0), leb-false _ _ (p9 .0), ltb-true _ _ (not-false _ (p15 .0)))

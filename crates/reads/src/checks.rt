@@ -10,7 +10,7 @@ ghost use mathlib.Core.Path.{_≡_};
 ghost use mathlib.Core.Bool.{true, not, _||_, cond};
 ghost use Prim.Native.Nat.{_<_};
 ghost use lib.Dec.{leb};
-ghost use Rattle.ledger.specs.Checks.{firstNumber, runCheck, totalsInRange, cellInRange, resultsShort};
+ghost use Rattle.ledger.specs.Checks.{firstNumber, runCheck, totalsInRange, cellInRange, listsShort};
 ghost use Rattle.ledger.specs.Store.{categoriesOf, datesOf, periodsOf, rowLength, settingsReady, cellsReady, isRunAt};
 ghost use Rattle.ledger.specs.Calls.{cellsUnready, totalsVerdict, cellVerdict};
 
@@ -57,7 +57,7 @@ pub fn category_number(settings: &[u8], category: u64) -> u64
 
 // Whether a part is too short, or one of two lists that take P entries each, or the store is unopened. The lists are told by their lengths.
 fn too_short(settings: &[u8], cells: &[u64], first: u64, second: u64) -> bool
-    ensures { λ r. ⌜ r ≡ (cellsUnready (now (settings .entry)) (now (cells .entry)) || resultsShort (periodsOf (now (settings .entry))) first second) ⌝ }
+    ensures { λ r. ⌜ r ≡ (cellsUnready (now (settings .entry)) (now (cells .entry)) || listsShort (periodsOf (now (settings .entry))) first second) ⌝ }
 {
     if cells_unready(settings, cells) {
         return true;
@@ -78,7 +78,7 @@ pub fn range_number(
     first: u64,
     second: u64,
 ) -> u64
-    ensures { λ r. ⌜ r ≡ cond (cellsUnready (now (settings .entry)) (now (cells .entry)) || resultsShort (periodsOf (now (settings .entry))) first second) 1 (cond (leb (datesOf (now (settings .entry))) date) 9 (cond (not (totalsInRange (categoriesOf (now (settings .entry))) category)) 15 0)) ⌝ }
+    ensures { λ r. ⌜ r ≡ cond (cellsUnready (now (settings .entry)) (now (cells .entry)) || listsShort (periodsOf (now (settings .entry))) first second) 1 (cond (leb (datesOf (now (settings .entry))) date) 9 (cond (not (totalsInRange (categoriesOf (now (settings .entry))) category)) 15 0)) ⌝ }
 {
     if too_short(settings, cells, first, second) {
         return 1;

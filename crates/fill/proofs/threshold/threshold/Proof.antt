@@ -3,7 +3,7 @@ use Prim.Native.Nat.{_-_}
 use mathlib.Core.Path.{refl}
 use native.Mathlib.Omega.{arith}
 use lib.ListN.{getD}
-use Rattle.fill.proofs.SharingLaws.{Between, all-between, halfway, exactly-left, upper-half, lower-half, bounds-met}
+use Rattle.fill.proofs.SharingLaws.{Between, all-between, halfway, exactly-left, to-middle, from-middle, bounds-met}
 use Rattle.fill.proofs.threshold.threshold.Statement.{statement}
 use Rattle.fill.proofs.threshold.threshold.Tie as tie
 
@@ -39,7 +39,7 @@ loop-again : tie.Need-loop-again Inv-loop μ-loop
 loop-again c =
     let r = c .before .before in
     let t = r .before in
-    upper-half (t .before .loop .inv) (t .loop-test .taken) refl (r .reaching .ensures .is) (c .if2 .taken)
+    to-middle (t .before .loop .inv) (t .loop-test .taken) refl (r .reaching .ensures .is) (c .if2 .taken)
 
 add-low : tie.Need-add-low Inv-loop μ-loop
 add-low c =
@@ -53,7 +53,7 @@ loop-again-2 : tie.Need-loop-again-2 Inv-loop μ-loop
 loop-again-2 c =
     let r = c .before .before in
     let t = r .before in
-    lower-half (t .before .loop .inv) (t .loop-test .taken) refl (r .reaching .ensures .is) (c .before .if1 .left) (c .if2 .left)
+    from-middle (t .before .loop .inv) (t .loop-test .taken) refl (r .reaching .ensures .is) (c .before .if1 .left) (c .if2 .left)
 
 returns-2 : tie.Need-returns-2 Inv-loop μ-loop
 returns-2 c = bounds-met (c .before .loop .inv) (c .loop-test .left)

@@ -1,7 +1,7 @@
 -- `too_short` meets its contract: the definition's `||` computes from the tests.
 use borrow.Author.Needs.{needs}
 use borrow.Author.Tests.{lt-ltb, le-ltb}
-use Rattle.ledger.specs.Checks.{resultsShort}
+use Rattle.ledger.specs.Checks.{listsShort}
 use Rattle.store.proofs.ColumnLaws.{cells-lent}
 use Rattle.reads.proofs.checks.too_short.Statement.{statement}
 use Rattle.reads.proofs.checks.too_short.Tie as tie
@@ -16,13 +16,13 @@ period-count-requires : tie.Need-period-count-requires
 period-count-requires c κs = cells-lent _ _ (c .before .cells-unready .ensures) (c .if1 .left) .0
 
 returns-2 : tie.Need-returns-2
-unfolding resultsShort
+unfolding listsShort
 returns-2 c =
     let ready = c .before .before in
     rw (← ready .before .cells-unready .ensures, ready .if1 .left, ← c .before .period-count .ensures, lt-ltb _ _ (c .if2 .taken))
 
 returns-3 : tie.Need-returns-3
-unfolding resultsShort
+unfolding listsShort
 returns-3 c =
     let ready = c .before .before in
     rw (← ready .before .cells-unready .ensures, ready .if1 .left, ← c .before .period-count .ensures, le-ltb _ _ (c .if2 .left))
