@@ -259,7 +259,7 @@ class Store:
         return answer
 
     def refused_for_arguments(self, name, given):
-        """The refusal that comes whatever the parts hold behind the header, or None."""
+        """The refusal that comes of the arguments and the kept settings alone, or None."""
         sizes, date, category = self.sizes, given.get('date', 0), given.get('category', 0)
         if date >= sizes.dates:
             return no(9)
@@ -272,7 +272,16 @@ class Store:
                 return no(16)
         elif category >= sizes.categories or not 1 <= given.get('period', 1) <= sizes.periods:
             return no(15)
+        elif name == 'fill_opted_out' and not self.opted_out_kept(given):
+            return no(15)
         return None
+
+    def opted_out_kept(self, given):
+        """Whether the settings keep a Smart domestic category record with these three."""
+        key = [1, given['group'], 1, given['quantity'], given['connection']]
+        first, records = struct.calcsize(HEADER), given['settings']
+        return any(list(records[at:at + 5]) == key
+                   for at in range(first, first + 8 * self.sizes.categories, 8))
 
     def heard(self, name, number, after):
         """What came, in the form of the ledger's answers."""
@@ -295,8 +304,8 @@ class Store:
         places = {0} if number not in OF_RECORDS else range(1, records + 1)
         if number == 13:
             places = range(records + 1)
-        possible = (number in (0, *CALLS[name].checks) and place in places
-                    and (number not in FOR_ARGUMENTS or (name, number) == ('fill_opted_out', 15)))
+        possible = (number in (0, *CALLS[name].checks) and number not in FOR_ARGUMENTS
+                    and place in places)
         if number == 0 and name == 'cell':
             possible &= came[1] in map(ord, 'ADEN')
         if number == 0 and name == 'net':

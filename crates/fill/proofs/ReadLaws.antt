@@ -4,13 +4,12 @@ use mathlib.Core.Path.{_≡_, refl, sym, ap, _∙_}
 use mathlib.Core.Logic.{_≢_}
 use mathlib.Core.Bool.{Bool, true, false, not, cond}
 use mathlib.Core.List.{List}
-use native.Mathlib.Omega.{arith}
 use borrow.Author.Tests.{eqb-false}
-use lib.Dec.{leb, eqb}
+use lib.Dec.{eqb}
 use lib.ListN.{length, take}
 use Rattle.metering.specs.Sum.{sumBelow}
 use Rattle.ledger.specs.Fill.{ShapeOf, ofCategory, ofOptedOut, shapeCategory, mayFill, filledValues}
-use Rattle.ledger.specs.Checks.{firstNumber, readCheck, fillCheck}
+use Rattle.ledger.specs.Checks.{firstNumber, fillCheck}
 use Rattle.ledger.specs.Ledger.{Answer, answer, left, refused, filledAre}
 use Rattle.ledger.specs.Store.{categoriesOf, periodsOf, rowLength, categoryOf, isRunAt}
 use Rattle.ledger.specs.Calls.{cellsUnready, cellFor, shapeFor, weightFor, fillVerdict, fillFor, overwritten}
@@ -19,36 +18,9 @@ use Rattle.ledger.proofs.Lists.{length-tabulate, front-is}
 use Rattle.ledger.proofs.Verdicts.{refused-is, kept-is, given-is, after-is}
 use Rattle.store.specs.declared.column.Column.{Column}
 use Rattle.store.specs.Column.{columnOf}
-use Rattle.reads.proofs.CheckLaws.{rangeNumber}
+use Rattle.reads.proofs.CheckLaws.{rangeNumber, first-number, range-decides, range-leaves}
 use Rattle.fill.specs.Asked.{fillCall}
 use Rattle.fill.specs.Sharing.{weightIn}
-
--- ---- the first number that is not 0 decides
-
-module _ (short : Bool) (dates date : ℕ) (inRange isRun fillable : Bool) (n : ℕ) (e : n ≡ cond short 1 (cond (leb dates date) 9 (cond (not inRange) 15 0))) where
-  range-decides : (n ≡ 0 → ⊥) → n ≡ fillCheck short dates date inRange isRun fillable
-  unfolding fillCheck readCheck firstNumber
-  range-decides some = first short (leb dates date) (not inRange) e
-    where
-      first : (a b c : Bool) → n ≡ cond a 1 (cond b 9 (cond c 15 0)) →
-          n ≡ firstNumber (cond a 1 (cond b 9 (cond c 15 (cond (not isRun) 14 0)))) (cond (not fillable) 17 0)
-      first true b c e = e
-      first false true c e = e
-      first false false true e = e
-      first false false false e = absurd (some e)
-
-  module _ (none : n ≡ 0) where
-    rest-decides : firstNumber (cond (not isRun) 14 0) (cond (not fillable) 17 0) ≡ fillCheck short dates date inRange isRun fillable
-    unfolding fillCheck readCheck
-    rest-decides = last short (leb dates date) (not inRange) (sym e ∙ none)
-      where
-        last : (a b c : Bool) → _≡_ {A = ℕ} (cond a 1 (cond b 9 (cond c 15 0))) 0 →
-            firstNumber (cond (not isRun) 14 0) (cond (not fillable) 17 0)
-            ≡ firstNumber (cond a 1 (cond b 9 (cond c 15 (cond (not isRun) 14 0)))) (cond (not fillable) 17 0)
-        last true b c z = absurd (omega arith)
-        last false true c z = absurd (omega arith)
-        last false false true z = absurd (omega arith)
-        last false false false z = refl
 
 not-not : (b : Bool) → not (not b) ≡ b
 not-not true = refl
@@ -57,6 +29,10 @@ not-not false = refl
 -- ---- the answer
 
 module _ (s cells : List ℕ) (shape : ShapeOf) (date advance : ℕ) (marks lent : List ℕ) where
+  -- 14 and 17
+  abbrev rest : ℕ
+  rest = cond (not (isRunAt (rowLength s) cells date)) 14 (cond (not (mayFill (periodsOf s) (weightFor s cells (fillCall shape date advance marks lent)))) 17 0)
+
   -- a number that a check gave
   pub refuses : (n : ℕ) → n ≡ fillVerdict s cells (fillCall shape date advance marks lent) .number → (n ≡ 0 → ⊥) →
       (refused n 0 ≡ answer (fillVerdict s cells (fillCall shape date advance marks lent)) (filledAre (fillFor s cells (fillCall shape date advance marks lent))))
@@ -65,14 +41,14 @@ module _ (s cells : List ℕ) (shape : ShapeOf) (date advance : ℕ) (marks lent
   refuses n is fails = (refused-is _ n is _ refl fails, kept-is _ n is _ _ fails)
 
   pub by-unready : {b : Bool} → b ≡ cellsUnready s cells → b ≡ true → 1 ≡ fillVerdict s cells (fillCall shape date advance marks lent) .number
-  unfolding fillVerdict fillCheck readCheck firstNumber
+  unfolding fillVerdict fillCheck
   by-unready is unready = rw (sym is ∙ unready)
 
   module _ (category : ℕ) (named : shapeFor s (fillCall shape date advance marks lent) ≡ category) (n : ℕ)
       (e : n ≡ rangeNumber s cells (length marks) (length lent) date category) where
     pub by-range : (n ≡ 0 → ⊥) → n ≡ fillVerdict s cells (fillCall shape date advance marks lent) .number
-    unfolding fillVerdict
-    by-range fails = rw named (range-decides _ _ _ _ _ _ n e fails)
+    unfolding fillVerdict fillCheck
+    by-range fails = rw named (range-decides s cells (length marks) (length lent) date category rest n e fails)
 
     module _ (none : n ≡ 0) {column : Column} {sum run seventeen m : ℕ} (is : column ≡ columnOf s category)
         (summed : sum ≡ sumBelow (column .periods) (weightIn column cells date marks)) (ran : run ≡ cond (not (isRunAt (rowLength s) cells date)) 14 0)
@@ -87,8 +63,10 @@ module _ (s cells : List ℕ) (shape : ShapeOf) (date advance : ℕ) (marks lent
       fillable = rw (not-not, ← weight-is, summed, is)
 
       pub by-rest : m ≡ fillVerdict s cells (fillCall shape date advance marks lent) .number
-      unfolding fillVerdict
-      by-rest = decided ∙ rw (ran, filled, fillable, named) (rest-decides _ _ _ _ _ _ n e none)
+      unfolding fillVerdict fillCheck
+      by-rest =
+          let last : m ≡ rest = first-number (not (isRunAt (rowLength s) cells date)) 13 ran (filled ∙ fillable) decided in
+          rw named (last ∙ range-leaves s cells (length marks) (length lent) date category rest n e none)
 
       -- so where no check fails the sum is not 0
       pub some-sum : m ≡ 0 → sum ≢ 0

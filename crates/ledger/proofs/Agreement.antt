@@ -1,7 +1,7 @@
 -- Agreement with the plain ledger: every call keeps the relation and answers alike, so every list of calls does.
 use Prim.Native.Nat.{ℕ, zero, suc, _≤_, _<_}
 use mathlib.Core.Path.{_≡_, refl, sym, ap, ap₂, _∙_}
-use mathlib.Core.Bool.{Bool, true, false, not, _||_, and-eq-true-iff}
+use mathlib.Core.Bool.{Bool, true, false, not, _||_, and-eq-true-iff, cond}
 use mathlib.Core.List.{List, [], _∷_}
 use native.Mathlib.Omega.{arith}
 use lib.Dec.{eqb, leb, ltb}
@@ -10,13 +10,13 @@ use borrow.Table.Steps.{cases}
 use borrow.Author.Tests.{eqb-true, leb-false, ltb-true, ltb-false, not-false}
 use Rattle.metering.specs.Laws.{between-true}
 use Rattle.metering.specs.Range.{between}
-use Rattle.ledger.specs.Checks.{RegistrationCall, ReceptionCall, Verdict, verdict, orElse, firstNumber, callNumber, registrationCheck, receptionCheck, runCheck, readCheck, totalsInRange, cellInRange, NetCall, listsShort, mayNet, netCheck, bandCheck, fillCheck}
+use Rattle.ledger.specs.Checks.{RegistrationCall, ReceptionCall, Verdict, verdict, orElse, firstNumber, callNumber, registrationCheck, receptionCheck, runCheck, rangeCheck, readCheck, totalsInRange, cellInRange, NetCall, listsShort, mayNet, netCheck, bandCheck, fillCheck}
 use Rattle.ledger.specs.Band.{BandCall}
-use Rattle.ledger.specs.Fill.{FillCall}
+use Rattle.ledger.specs.Fill.{FillCall, mayFill}
 use Rattle.ledger.specs.Sizes.{metersLength, cellsLength}
-use Rattle.ledger.specs.Ledger.{Opening, categories, dates, periods, Meter, category, Ledger, start, Call, register, receive, run, readTotals, readCell, readNet, searchBand, fillHole, Answer, moved, totalsAre, cellIs, netIs, bandIs, filledAre, answer, left, Lengths, settingsShort, metersShort, cellsShort, anyShort, ledgerRegistrationCheck, afterRegistration, ledgerReceptionCheck, afterReception, cellAt, isRun, ledgerRunCheck, afterRun, movedBetween, ledgerTotalsCheck, ledgerCellCheck, totalsAt, ledgerNetCheck, netAt, ledgerBandCheck, bandAt, shapeAt, ledgerFillCheck, fillAt, ledgerAnswer, ledgerAfter}
-use Rattle.ledger.specs.Store.{rowLength, datesOf, categoriesOf, periodsOf, isRunAt}
-use Rattle.ledger.specs.Calls.{metersUnready, cellsUnready, openingVerdict, openedMeters, openedReadings, openedCells, registrationVerdict, registeredMeters, receptionVerdict, receivedReadings, runVerdict, ranFrom, totalsVerdict, totalsFor, cellVerdict, cellFor, netVerdict, netFor, bandVerdict, bandFor, shapeFor, fillVerdict, fillFor}
+use Rattle.ledger.specs.Ledger.{Opening, categories, dates, periods, Meter, category, Ledger, start, Call, register, receive, run, readTotals, readCell, readNet, searchBand, fillHole, Answer, moved, totalsAre, cellIs, netIs, bandIs, filledAre, answer, left, Lengths, settingsShort, metersShort, cellsShort, anyShort, ledgerRegistrationCheck, afterRegistration, ledgerReceptionCheck, afterReception, cellAt, isRun, ledgerRunCheck, afterRun, movedBetween, ledgerTotalsCheck, ledgerCellCheck, totalsAt, ledgerNetCheck, netAt, ledgerBandCheck, bandAt, shapeAt, weightAt, ledgerFillCheck, fillAt, ledgerAnswer, ledgerAfter}
+use Rattle.ledger.specs.Store.{rowLength, datesOf, categoriesOf, periodsOf, isRunAt, categoryOf}
+use Rattle.ledger.specs.Calls.{metersUnready, cellsUnready, openingVerdict, openedMeters, openedReadings, openedCells, registrationVerdict, registeredMeters, receptionVerdict, receivedReadings, runVerdict, ranFrom, totalsVerdict, totalsFor, cellVerdict, cellFor, netVerdict, netFor, bandVerdict, bandFor, shapeFor, weightFor, fillVerdict, fillFor}
 use Rattle.ledger.specs.Engine.{Parts, callAnswer, withMeters, withReadings, withCells, leaves, openedParts, Item, cut, restored, partsAfter, answersFrom, storeAnswers, cutLengths, ledgerAnswers, Every, lengthsOf, AreBytes, BodyOfBytes, BodiesOfBytes, Agreement}
 use Rattle.ledger.proofs.Choices.{check-passed, neither, both-passed, call-passed}
 use Rattle.ledger.proofs.Verdicts.{left-of, passed-else}
@@ -223,11 +223,10 @@ module _ (whole : Lengths) (p : Parts) (l : Ledger) (agrees : Agrees whole p l) 
   cells-short : cellsUnready S C ≡ cellsShort o lent
   cells-short = cells-unready o (p .settings) (n .settings) (agrees .sound .valid) (agrees .settings) C (length M) (length R)
 
-  -- 14 looks at a date that there is
-  read-check : (short : Bool) → (short ≡ false → cellsShort o lent ≡ false) → (d : ℕ) (in-store in-ledger : Bool) → (SettingsAgree o S → in-store ≡ in-ledger) →
-      readCheck short (datesOf S) d in-store (isRunAt (rowLength S) C d) ≡ readCheck short (dates o) d in-ledger (isRun l d)
-  unfolding readCheck
-  read-check short long d a b h =
+  -- 1, 9 and 15; what follows looks at a date that there is, and at a category or period in range
+  range-check : (short : Bool) → (short ≡ false → cellsShort o lent ≡ false) → (d : ℕ) (in-store in-ledger : Bool) → (SettingsAgree o S → in-store ≡ in-ledger) →
+      (x y : ℕ) → (CellsEnough → d < dates o → in-ledger ≡ true → x ≡ y) → rangeCheck short (datesOf S) d in-store x ≡ rangeCheck short (dates o) d in-ledger y
+  range-check short long d a b h x y same =
       cases short
       (λ q. rw q)
       (λ q.
@@ -235,25 +234,39 @@ module _ (whole : Lengths) (p : Parts) (l : Ledger) (agrees : Agrees whole p l) 
       rw (q, e .0 .dates-are, h (e .0))
       (cases (leb (dates o) d)
       (λ w. rw w)
-      (λ w. rw (run-is l S C (e .0) (e .1) (agrees .sound) d (leb-false (dates o) d w)))))
+      (λ w. cases b (λ v. rw (w, v, same e (leb-false (dates o) d w) v)) (λ v. rw (w, v)))))
 
-  read-ok : (short : Bool) → (short ≡ false → cellsShort o lent ≡ false) → (d : ℕ) (in-range : Bool) → readCheck short (dates o) d in-range (isRun l d) ≡ 0 → CellsEnough × (d < dates o) × (in-range ≡ true) × (isRun l d ≡ true)
-  unfolding readCheck
-  read-ok short long d b e =
+  range-ok : (short : Bool) → (short ≡ false → cellsShort o lent ≡ false) → (d : ℕ) (in-range : Bool) (x : ℕ) → rangeCheck short (dates o) d in-range x ≡ 0 →
+      CellsEnough × (d < dates o) × (in-range ≡ true) × (x ≡ 0)
+  range-ok short long d b x e =
       let p1 = check-passed short 0 _ e in
       let p9 = check-passed (leb (dates o) d) 8 _ (p1 .1) in
       let p15 = check-passed (not b) 14 _ (p9 .1) in
-      let p14 = check-passed (not (isRun l d)) 13 0 (p15 .1) in
-      (enough-cells (long (p1 .0)), leb-false (dates o) d (p9 .0), not-false b (p15 .0), not-false (isRun l d) (p14 .0))
+      (enough-cells (long (p1 .0)), leb-false (dates o) d (p9 .0), not-false b (p15 .0), p15 .1)
+
+  -- 14
+  read-check : (d : ℕ) (in-store in-ledger : Bool) → (SettingsAgree o S → in-store ≡ in-ledger) →
+      readCheck (cellsShort o lent) (datesOf S) d in-store (isRunAt (rowLength S) C d) ≡ readCheck (cellsShort o lent) (dates o) d in-ledger (isRun l d)
+  unfolding readCheck
+  read-check d a b h = range-check (cellsShort o lent) (λ q. q) d a b h _ _ (λ e date range. rw (run-is l S C (e .0) (e .1) (agrees .sound) d date))
+
+  ran-ok : (d x : ℕ) → cond (not (isRun l d)) 14 x ≡ 0 → (isRun l d ≡ true) × (x ≡ 0)
+  ran-ok d x e = let p = check-passed (not (isRun l d)) 13 x e in (not-false (isRun l d) (p .0), p .1)
+
+  read-ok : (d : ℕ) (in-range : Bool) → readCheck (cellsShort o lent) (dates o) d in-range (isRun l d) ≡ 0 → CellsEnough × (d < dates o) × (in-range ≡ true) × (isRun l d ≡ true)
+  unfolding readCheck
+  read-ok d b e =
+      let (enough, date, range, rest) = range-ok (cellsShort o lent) (λ q. q) d b _ e in
+      (enough, date, range, ran-ok d 0 rest .0)
 
   totals-verdict : (d c : ℕ) → totalsVerdict S C d c ≡ ledgerTotalsCheck l lent d c
   unfolding totalsVerdict ledgerTotalsCheck
-  totals-verdict d c = rw cells-short (ap verdict (read-check (cellsShort o lent) (λ q. q) d _ (totalsInRange (categories o) c) (λ s. rw (s .categories-are))))
+  totals-verdict d c = rw cells-short (ap verdict (read-check d _ (totalsInRange (categories o) c) (λ s. rw (s .categories-are))))
 
   totals-value : (d c : ℕ) → ledgerTotalsCheck l lent d c .number ≡ 0 → totalsFor S C d c ≡ totalsAt l d c
   unfolding ledgerTotalsCheck totalsInRange
   totals-value d c e =
-      let (enough, date, range, ran) = read-ok (cellsShort o lent) (λ q. q) d (totalsInRange (categories o) c) e in
+      let (enough, date, range, ran) = read-ok d (totalsInRange (categories o) c) e in
       totals-are l S C (enough .0) (enough .1) (agrees .sound) d c date (ltb-true c (categories o) range) ran
 
   totals-step : (d c : ℕ) → Step (readTotals d c)
@@ -265,12 +278,12 @@ module _ (whole : Lengths) (p : Parts) (l : Ledger) (agrees : Agrees whole p l) 
   cell-verdict d c j =
       rw cells-short
       (ap verdict
-      (read-check (cellsShort o lent) (λ q. q) d (cellInRange (categoriesOf S) (periodsOf S) c j) (cellInRange (categories o) (periods o) c j) (λ s. unfold periodsOf in rw (s .categories-are, s .duration))))
+      (read-check d (cellInRange (categoriesOf S) (periodsOf S) c j) (cellInRange (categories o) (periods o) c j) (λ s. unfold periodsOf in rw (s .categories-are, s .duration))))
 
   cell-value : (d c j : ℕ) → ledgerCellCheck l lent d c j .number ≡ 0 → cellFor S C d c j ≡ cellAt l d c j
   unfolding ledgerCellCheck cellInRange
   cell-value d c j e =
-      let (enough, date, range, ran) = read-ok (cellsShort o lent) (λ q. q) d (cellInRange (categories o) (periods o) c j) e in
+      let (enough, date, range, ran) = read-ok d (cellInRange (categories o) (periods o) c j) e in
       let q = and-eq-true-iff (ltb c (categories o)) (between 1 (periods o) j) .0 range in
       let w = between-true 1 (periods o) j .0 (q .1) in
       numbered j (w .0) (λ k h. cell-is l S C (enough .0) (enough .1) (agrees .sound) d c k date (ltb-true c (categories o) (q .0)) h ran) (w .1)
@@ -284,35 +297,32 @@ module _ (whole : Lengths) (p : Parts) (l : Ledger) (agrees : Agrees whole p l) 
   unfolding callAnswer leaves ledgerAnswer ledgerAfter
   cell-step d c j = record { answers = rw (cell-verdict d c j) (same-answer _ _ _ (λ e. ap cellIs (cell-value d c j e))); after = read-agrees }
 
+  -- P is that of the opening, so 1 is the same of two lists that take P entries each
+  lists-short : (x y : ℕ) → (cellsUnready S C || listsShort (periodsOf S) x y) ≡ (cellsShort o lent || listsShort (periods o) x y)
+  lists-short x y = rw cells-short (cases (cellsShort o lent) (λ q. rw q) (λ q. unfold periodsOf in rw (q, enough-cells q .0 .duration)))
+
   -- 26 looks at a category that there is
   net-verdict : (a : NetCall) → netVerdict S C a ≡ ledgerNetCheck l lent a
   unfolding netVerdict ledgerNetCheck netCheck
   net-verdict a =
-      rw cells-short
-      (cases (cellsShort o lent)
-      (λ q. rw q)
-      (λ q.
-      let e = enough-cells q in
-      let lists : listsShort (periodsOf S) (a .numbers) (a .marks) ≡ listsShort (periods o) (a .numbers) (a .marks) = (unfold periodsOf in rw (e .0 .duration)) in
-      rw (q, lists, e .0 .dates-are, e .0 .categories-are)
-      (cases (leb (dates o) (a .date))
-      (λ w. rw w)
-      (λ w.
-      rw (w, run-is l S C (e .0) (e .1) (agrees .sound) (a .date) (leb-false (dates o) (a .date) w))
-      (cases (totalsInRange (categories o) (a .category))
-      (λ v. rw (v, may-net-is l S C (e .0) (e .1) (agrees .sound) (a .allGroups) (a .category) (ltb-true (a .category) (categories o) (unfold totalsInRange in v))))
-      (λ v. rw v))))))
+      rw (lists-short (a .numbers) (a .marks))
+      (ap verdict
+      (range-check (cellsShort o lent || listsShort (periods o) (a .numbers) (a .marks)) (λ q. neither _ _ q .0) (a .date) (totalsInRange (categoriesOf S) (a .category)) (totalsInRange (categories o) (a .category)) (λ s. rw (s .categories-are))
+      (cond (not (mayNet (categoryOf S) (categoriesOf S) (a .allGroups) (a .category))) 26 (cond (not (isRunAt (rowLength S) C (a .date))) 14 0))
+      (cond (not (mayNet (category o) (categories o) (a .allGroups) (a .category))) 26 (cond (not (isRun l (a .date))) 14 0))
+      (λ e date range.
+      rw (
+        e .0 .categories-are,
+        run-is l S C (e .0) (e .1) (agrees .sound) (a .date) date,
+        may-net-is l S C (e .0) (e .1) (agrees .sound) (a .allGroups) (a .category) (ltb-true (a .category) (categories o) (unfold totalsInRange in range)),
+      ))))
 
   net-value : (a : NetCall) → ledgerNetCheck l lent a .number ≡ 0 → netFor S C a ≡ netAt l a
   unfolding ledgerNetCheck netCheck totalsInRange
   net-value a e =
-      let p1 = check-passed (cellsShort o lent || listsShort (periods o) (a .numbers) (a .marks)) 0 _ e in
-      let p9 = check-passed (leb (dates o) (a .date)) 8 _ (p1 .1) in
-      let p15 = check-passed (not (ltb (a .category) (categories o))) 14 _ (p9 .1) in
-      let p26 = check-passed (not (mayNet (category o) (categories o) (a .allGroups) (a .category))) 25 _ (p15 .1) in
-      let p14 = check-passed (not (isRun l (a .date))) 13 0 (p26 .1) in
-      let enough = enough-cells (neither _ (listsShort (periods o) (a .numbers) (a .marks)) (p1 .0) .0) in
-      net-is l S C (enough .0) (enough .1) (agrees .sound) a (leb-false (dates o) (a .date) (p9 .0)) (ltb-true (a .category) (categories o) (not-false _ (p15 .0))) (not-false (isRun l (a .date)) (p14 .0))
+      let (enough, date, range, rest) = range-ok (cellsShort o lent || listsShort (periods o) (a .numbers) (a .marks)) (λ q. neither _ _ q .0) (a .date) (totalsInRange (categories o) (a .category)) _ e in
+      let p26 = check-passed (not (mayNet (category o) (categories o) (a .allGroups) (a .category))) 25 _ rest in
+      net-is l S C (enough .0) (enough .1) (agrees .sound) a date (ltb-true (a .category) (categories o) range) (ran-ok (a .date) 0 (p26 .1) .0)
 
   net-step : (a : NetCall) → Step (readNet a)
   unfolding callAnswer leaves ledgerAnswer ledgerAfter
@@ -334,35 +344,26 @@ module _ (whole : Lengths) (p : Parts) (l : Ledger) (agrees : Agrees whole p l) 
   unfolding callAnswer leaves ledgerAnswer ledgerAfter
   band-step a = record { answers = rw (band-verdict a) (same-answer _ _ _ (λ e. ap bandIs (band-value a e))); after = read-agrees }
 
-  -- 1 is for marks and result too
-  abbrev fillShort : FillCall → Bool
-  fillShort a = cellsShort o lent || listsShort (periods o) (length (a .marks)) (a .room)
-
-  abbrev fillRead : FillCall → ℕ
-  fillRead a = readCheck (fillShort a) (dates o) (a .date) (totalsInRange (categories o) (shapeAt l a)) (isRun l (a .date))
-
-  fill-ok : (a : FillCall) → fillRead a ≡ 0 → CellsEnough × (a .date < dates o) × (totalsInRange (categories o) (shapeAt l a) ≡ true) × (isRun l (a .date) ≡ true)
-  fill-ok a e = read-ok (fillShort a) (λ q. neither _ _ q .0) (a .date) (totalsInRange (categories o) (shapeAt l a)) e
-
   -- 17 looks at the cells of a run date, and of a category that there is
   fill-verdict : (a : FillCall) → fillVerdict S C a ≡ ledgerFillCheck l lent a
-  unfolding fillVerdict ledgerFillCheck fillCheck firstNumber
+  unfolding fillVerdict ledgerFillCheck fillCheck
   fill-verdict a =
-      rw (lists, read-check (fillShort a) (λ q. neither _ _ q .0) (a .date) (totalsInRange (categoriesOf S) (shapeFor S a)) (totalsInRange (categories o) (shapeAt l a)) (λ s. rw (s .categories-are, shape-is l S s a)))
-      (cases (eqb (fillRead a) 0)
-      (λ q.
-      let (enough, date, range, ran) = fill-ok a (eqb-true _ 0 q) in
-      rw (may-fill-is l S C (enough .0) (enough .1) (agrees .sound) a date (ltb-true _ (categories o) (unfold totalsInRange in range)) ran))
-      (λ q. rw q))
-    where
-      lists : (cellsUnready S C || listsShort (periodsOf S) (length (a .marks)) (a .room)) ≡ fillShort a
-      lists = rw cells-short (cases (cellsShort o lent) (λ q. rw q) (λ q. unfold periodsOf in rw (q, enough-cells q .0 .duration)))
+      rw (lists-short (length (a .marks)) (a .room))
+      (ap verdict
+      (range-check (cellsShort o lent || listsShort (periods o) (length (a .marks)) (a .room)) (λ q. neither _ _ q .0) (a .date) (totalsInRange (categoriesOf S) (shapeFor S a)) (totalsInRange (categories o) (shapeAt l a)) (λ s. rw (s .categories-are, shape-is l S s a))
+      (cond (not (isRunAt (rowLength S) C (a .date))) 14 (cond (not (mayFill (periodsOf S) (weightFor S C a))) 17 0))
+      (cond (not (isRun l (a .date))) 14 (cond (not (mayFill (periods o) (weightAt l a))) 17 0))
+      (λ e date range.
+      rw (run-is l S C (e .0) (e .1) (agrees .sound) (a .date) date)
+      (cases (isRun l (a .date))
+      (λ q. rw (q, may-fill-is l S C (e .0) (e .1) (agrees .sound) a date (ltb-true _ (categories o) (unfold totalsInRange in range)) q))
+      (λ q. rw q)))))
 
   fill-value : (a : FillCall) → ledgerFillCheck l lent a .number ≡ 0 → fillFor S C a ≡ fillAt l a
-  unfolding ledgerFillCheck fillCheck
+  unfolding ledgerFillCheck fillCheck totalsInRange
   fill-value a e =
-      let (enough, date, range, ran) = fill-ok a (both-passed _ _ e .0) in
-      fill-is l S C (enough .0) (enough .1) (agrees .sound) a date (ltb-true _ (categories o) (unfold totalsInRange in range)) ran
+      let (enough, date, range, rest) = range-ok (cellsShort o lent || listsShort (periods o) (length (a .marks)) (a .room)) (λ q. neither _ _ q .0) (a .date) (totalsInRange (categories o) (shapeAt l a)) _ e in
+      fill-is l S C (enough .0) (enough .1) (agrees .sound) a date (ltb-true _ (categories o) range) (ran-ok (a .date) _ rest .0)
 
   fill-step : (a : FillCall) → Step (fillHole a)
   unfolding callAnswer leaves ledgerAnswer ledgerAfter

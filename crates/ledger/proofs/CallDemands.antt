@@ -16,7 +16,7 @@ use Rattle.metering.specs.Range.{between, metersInRange, categoriesInRange, dat
 use Rattle.metering.specs.Calendar.{durationKnown, periodsPerDay, periodEnding}
 use Rattle.metering.specs.Laws.{between-true, duration-is, duration-pos, periodsPerDay-times, periodEnding-at, periodEnding-is, periodEnding-le}
 use Rattle.ledger.specs.Method.{Category, categoryAt, isSmart, sameFamily, ReadingSet, Picture}
-use Rattle.ledger.specs.Checks.{verdict, firstFailed, anyBelow, recordAt, sameKey, categoryNumber, dayTypeNumber, orElse, sizesValid, openingCheck, callNumber, Registration, RegistrationCall, startOf, notAfterLast, fieldsNumber, knownNumber, meterNumber, registrationCheck, ReceptionCall, endMinute, quality, wattHoursAt, contentNumber, recordNumberIf, recordNumber, headerNumber, bodyCheck, inForceCheck, receptionCheck, runCheck, readCheck, totalsInRange, cellInRange, bandCheck}
+use Rattle.ledger.specs.Checks.{verdict, firstFailed, anyBelow, recordAt, sameKey, categoryNumber, dayTypeNumber, orElse, sizesValid, openingCheck, callNumber, Registration, RegistrationCall, startOf, notAfterLast, fieldsNumber, knownNumber, meterNumber, registrationCheck, ReceptionCall, endMinute, quality, wattHoursAt, contentNumber, recordNumberIf, recordNumber, headerNumber, bodyCheck, inForceCheck, receptionCheck, runCheck, readCheck, totalsInRange, cellInRange, bandCheck, listsShort}
 use Rattle.ledger.specs.Ledger.{Opening, categories, dates, periods, category, dayType, Meter, Ledger, accepted, answer, Lengths, settingsShort, metersShort, cellsShort, anyShort, meterWith, registrationsOf, isHeld, heldFrom, ledgerRegistrationCheck, currentOf, ledgerReceptionCheck, isPicture, isRun, ledgerRunCheck, ledgerTotalsCheck, ledgerCellCheck, ledgerBandCheck, ledgerAnswer}
 use Rattle.ledger.specs.Demands.{GoodRecord, MayReceive, ReceptionExact, Row, row, rowOf, eachBelow, AllHold, FirstFails, MetersLong, CellsLong, AllLong, GoodSizes, ValidCategory, SameKey, GoodCategory, GoodDayType, openingRows, OpeningExact, FirstBad, OpeningPlaces, KeysDiffer, StartsOn, GoodFields, registrationRows, RegistrationExact, recordRows, underRows, bodyRows, headerRows, ReceptionAnswer, ReceptionPlaces, HasPicture, RunExact, TotalsExact, CellExact, BandAnswer, SameFamily, FamilyExact}
 use Rattle.ledger.proofs.Choices.{neither}
@@ -58,9 +58,17 @@ module _ (o : Opening) (n : Lengths) where
     λ h. rw (le-ltb _ _ (h .0), le-ltb _ _ (h .1), le-ltb _ _ (h .2)),
   )
 
-  pub cells-iff : (cellsShort o n ≡ false) ↔ CellsLong o n
+  cells-iff : (cellsShort o n ≡ false) ↔ CellsLong o n
   unfolding cellsShort settingsShort
   cells-iff = (λ e. let q = neither _ _ e in (ltb-false _ _ (q .0), ltb-false _ _ (q .1)), λ h. rw (le-ltb _ _ (h .0), le-ltb _ _ (h .1)))
+
+  -- and two lists that take P entries each
+  pub lists-iff : (x y : ℕ) → ((cellsShort o n || listsShort (periods o) x y) ≡ false) ↔ (CellsLong o n × (periods o ≤ x) × (periods o ≤ y))
+  unfolding listsShort
+  lists-iff x y = (
+    λ e. let p = neither _ _ e in let q = neither _ _ (p .1) in (cells-iff .0 (p .0), ltb-false _ _ (q .0), ltb-false _ _ (q .1)),
+    λ h. rw (cells-iff .1 (h .0), le-ltb _ _ (h .1), le-ltb _ _ (h .2)),
+  )
 
   any-iff : (anyShort o n ≡ false) ↔ AllLong o n
   unfolding anyShort

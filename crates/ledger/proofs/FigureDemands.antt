@@ -193,7 +193,7 @@ module _ (l : Ledger) (c : ℕ) where
   off-le d =
       let w = category (l .opening) c .window in
       sumBelow-le (periods (l .opening)) _ _
-      (λ k. part-le (liesWithin (l .opening .duration) (windowStart w) (windowEnd w) (suc k)) (cellAt l d c (suc k) .value))
+      (λ k h. part-le (liesWithin (l .opening .duration) (windowStart w) (windowEnd w) (suc k)) (cellAt l d c (suc k) .value))
 
   with-window : (d : ℕ) → category (l .opening) c .window ≢ 0 → totalsAt l d c .peak + totalsAt l d c .off ≡ totalsAt l d c .tot
   unfolding totalsAt totalsOn peakOn

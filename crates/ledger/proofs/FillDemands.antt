@@ -2,7 +2,7 @@
 use Prim.Native.Nat.{ℕ, zero, suc, _+_, _*_, _/_, _%_, _≤_, _<_}
 use mathlib.Core.Path.{_≡_, refl, sym, ap, _∙_}
 use mathlib.Core.Logic.{_≢_, _↔_, inl, inr, ⊎-elim}
-use mathlib.Core.Bool.{Bool, true, false, not, _||_, cond, and-eq-true-iff}
+use mathlib.Core.Bool.{Bool, true, false, not, cond, and-eq-true-iff}
 use mathlib.Core.List.{List, [], _∷_}
 use native.Mathlib.Omega.{arith}
 use native.Mathlib.Nat.{add-zero, mod-lt, div-add-mod'}
@@ -11,25 +11,24 @@ use lib.ListN.{length, getD}
 use lib.Seq.{ext-getD}
 use lib.Arith.{digits-div, digits-mod}
 use borrow.Table.Steps.{cases}
-use borrow.Author.Tests.{eq-eqb, ne-eqb, eqb-true, eqb-false, ltb-true, ltb-false, lt-ltb, le-ltb, not-true}
+use borrow.Author.Tests.{eq-eqb, ne-eqb, eqb-true, eqb-false, ltb-true, ltb-false, lt-ltb, not-true}
 use Rattle.metering.specs.Sum.{sumBelow}
 use Rattle.ledger.specs.Method.{Category, isSmart}
 use Rattle.ledger.specs.Table.{tabulate, firstFrom}
 use Rattle.ledger.specs.Net.{sumOver}
-use Rattle.ledger.specs.Fill.{ShapeOf, ofCategory, ofOptedOut, isOptedOutShape, shapeCategory, FillCall, weightBy, mayFill, comesBefore, countBefore, wholePart, remainderOf, leftOver, filledValue, filledValues}
+use Rattle.ledger.specs.Fill.{ShapeOf, ofCategory, ofOptedOut, isOptedOutShape, shapeCategory, FillCall, weightBy, mayFill, countBefore, wholePart, remainderOf, leftOver, filledValue, filledValues}
 use Rattle.ledger.specs.Threshold.{reaching}
-use Rattle.ledger.specs.Checks.{openingCheck, listsShort, readCheck, totalsInRange, fillCheck}
-use Rattle.ledger.specs.Ledger.{Opening, categories, dates, periods, category, Ledger, filledAre, Lengths, cellsShort, shapeAt, weightAt, ledgerFillCheck, fillAt, ledgerAnswer, ledgerAfter}
+use Rattle.ledger.specs.Checks.{openingCheck, totalsInRange, fillCheck}
+use Rattle.ledger.specs.Ledger.{Opening, categories, dates, periods, category, Ledger, filledAre, Lengths, shapeAt, weightAt, ledgerFillCheck, fillAt, ledgerAnswer, ledgerAfter}
 use Rattle.ledger.specs.Engine.{leaves}
-use Rattle.ledger.specs.Demands.{SameKey, CellsLong, OptedOutShape, HasShape, ShapeExact, IsMissing, missingSum, shapeValue, FillExact, Shared, FillUnique, Fills, FillShares, FillNear, FillAlone, LeftOverFew, FillWorked, FillLeavesAll}
-use Rattle.ledger.proofs.Choices.{neither}
+use Rattle.ledger.specs.Demands.{SameKey, OptedOutShape, HasShape, ShapeExact, IsMissing, missingSum, shapeValue, FillExact, Shared, FillUnique, Fills, FillShares, FillNear, FillAlone, LeftOverFew, FillLeavesAll}
 use Rattle.ledger.proofs.Verdicts.{answer-none, answer-some}
 use Rattle.ledger.proofs.Lists.{length-tabulate, getD-tabulate, sumBelow-cong, sumBelow-one, terms-lt}
 use Rattle.ledger.proofs.Chosen.{first-passes, first-low}
 use Rattle.ledger.proofs.Nets.{sumOver-append, sumOver-one}
 use Rattle.ledger.proofs.Fills.{gets-before, left-over-few, filled-sum, filled-near, filled-zero}
-use Rattle.ledger.proofs.FirstFailed.{finds-none, finds-row, finds-both, goes-by}
-use Rattle.ledger.proofs.CallDemands.{not-iff, date-iff, cells-iff, ran-iff, keys-differ}
+use Rattle.ledger.proofs.FirstFailed.{finds-none, finds-row, goes-by}
+use Rattle.ledger.proofs.CallDemands.{not-iff, date-iff, lists-iff, ran-iff, keys-differ}
 use Rattle.ledger.proofs.NetDemands.{sum-chosen}
 use Rattle.ledger.proofs.FigureDemands.{chosen-count}
 
@@ -155,24 +154,15 @@ fill-iff l a =
     )
 
 pub fill-exact : FillExact
-unfolding ledgerAnswer ledgerFillCheck fillCheck readCheck totalsInRange listsShort shapeAt
+unfolding ledgerAnswer ledgerFillCheck fillCheck totalsInRange shapeAt
 fill-exact l n a =
     goes-by (ledgerFillCheck l n a) _ refl
-    (finds-both
-    (finds-row refl long-iff
+    (finds-row refl (lists-iff (l .opening) n (length (a .marks)) (a .room))
     (finds-row refl (date-iff (dates (l .opening)) (a .date))
     (finds-row refl (not-iff _ (shape-iff (l .opening) (a .shape)))
     (finds-row refl (not-iff _ (ran-iff l (a .date)))
-    finds-none))))
     (finds-row refl (not-iff _ (fill-iff l a))
-    finds-none))
-  where
-    long-iff : ((cellsShort (l .opening) n || (ltb (length (a .marks)) (periods (l .opening)) || ltb (a .room) (periods (l .opening)))) ≡ false)
-        ↔ (CellsLong (l .opening) n × (periods (l .opening) ≤ length (a .marks)) × (periods (l .opening) ≤ a .room))
-    long-iff = (
-      λ e. let p = neither _ _ e in let q = neither _ _ (p .1) in (cells-iff (l .opening) n .0 (p .0), ltb-false _ _ (q .0), ltb-false _ _ (q .1)),
-      λ h. rw (cells-iff (l .opening) n .1 (h .0), le-ltb _ _ (h .1), le-ltb _ _ (h .2)),
-    )
+    finds-none)))))
 
 -- ---- sums of lists
 
@@ -385,10 +375,6 @@ few-left-over P weight advance may =
     rw (chosen-count P (λ k. ltb 0 (remainderOf P weight advance k))) (unfold reaching in few)
 
 -- ---- computed
-
-pub fill-worked : FillWorked
-unfolding filledValues filledValue wholePart remainderOf leftOver countBefore comesBefore weightBy mayFill sumBelow tabulate
-fill-worked = (refl, refl, refl, refl, refl, refl, refl)
 
 pub fill-leaves-all : FillLeavesAll
 unfolding ledgerAfter leaves

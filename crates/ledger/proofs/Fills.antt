@@ -8,11 +8,11 @@ use native.Mathlib.Nat.{zero-add, add-zero, add-mul, mul-comm, mul-zero, mod-lt,
 use lib.Dec.{leb, ltb, eqb}
 use borrow.Table.Steps.{cases}
 use borrow.Author.Tests.{ltb-true, ltb-false, leb-true, leb-false, eqb-true, eqb-false, lt-ltb, le-ltb, le-leb, lt-leb, eq-eqb, ne-eqb}
-use Rattle.metering.specs.Sum.{sumBelow}
+use Rattle.metering.specs.Sum.{sumBelow, sumBelow-le}
 use Rattle.ledger.specs.Fill.{comesBefore, countBefore, wholePart, remainderOf, leftOver, filledValue, filledValues}
 use Rattle.ledger.specs.Threshold.{reaching, equalTo}
 use Rattle.ledger.proofs.Choices.{neither}
-use Rattle.ledger.proofs.Lists.{tabulate-ext, sumBelow-cong, sumBelow-none, sumBelow-plus, sumBelow-more, sumBelow-ones, terms-le, term-le-sum, terms-lt, sum-so-far, sum-times}
+use Rattle.ledger.proofs.Lists.{tabulate-ext, sumBelow-cong, sumBelow-none, sumBelow-plus, sumBelow-more, sumBelow-ones, term-le-sum, terms-lt, sum-so-far, sum-times}
 
 -- ---- weights that are alike give values that are alike
 
@@ -62,7 +62,7 @@ module _ (n : ℕ) (r : ℕ → ℕ) where
 
   reaching-low : (t : ℕ) → reaching n r t ≤ n
   unfolding reaching
-  reaching-low t = let most = terms-le n _ _ (λ k l. counted-le (leb t (r k)) true (λ q. refl)) in let all = sumBelow-ones n in omega arith
+  reaching-low t = let most = sumBelow-le n _ _ (λ k l. counted-le (leb t (r k)) true (λ q. refl)) in let all = sumBelow-ones n in omega arith
 
   -- those above t and those equal to it
   pub reaching-next : (t : ℕ) → reaching n r t ≡ reaching n r (suc t) + equalTo n r t
@@ -84,7 +84,7 @@ module _ (n : ℕ) (r : ℕ → ℕ) where
   below-comes-after : (t k : ℕ) → r k < t → reaching n r t ≤ countBefore n r k
   unfolding reaching countBefore comesBefore
   below-comes-after t k h =
-      terms-le n _ _ (λ i l. counted-le (leb t (r i)) (comesBefore r i k) (λ q. let high = leb-true t (r i) q in rw (lt-ltb (r k) (r i) (omega arith))))
+      sumBelow-le n _ _ (λ i l. counted-le (leb t (r i)) (comesBefore r i k) (λ q. let high = leb-true t (r i) q in rw (lt-ltb (r k) (r i) (omega arith))))
 
   -- before one above t come only others above t
   above-comes-first : (t k : ℕ) → k < n → t < r k → countBefore n r k < reaching n r (suc t)
@@ -195,7 +195,7 @@ module _ (n : ℕ) (r : ℕ → ℕ) where
 
   fewer-before : (i k : ℕ) → comesBefore r i k ≡ false → countBefore n r k ≤ countBefore n r i
   unfolding countBefore
-  fewer-before i k e = terms-le n _ _ (λ j l. counted-le (comesBefore r j k) (comesBefore r j i) (λ q. cases (comesBefore r j i) (λ w. w) (λ w. absurd (out j q w))))
+  fewer-before i k e = sumBelow-le n _ _ (λ j l. counted-le (comesBefore r j k) (comesBefore r j i) (λ q. cases (comesBefore r j i) (λ w. w) (λ w. absurd (out j q w))))
     where
       out : (j : ℕ) → comesBefore r j k ≡ true → comesBefore r j i ≡ false → ⊥
       out j q w =
@@ -270,12 +270,12 @@ module _ (n : ℕ) (weight : ℕ → ℕ) (advance : ℕ) (some : sumBelow n wei
       all-shares ∙ ap (λ x. x * W) (sym parts-and-left) ∙ add-mul (sumBelow n part) left W in
       omega arith
 
-  -- each remainder is below W, so W times their sum falls short by one at least for each that is above 0
+  -- each remainder is below W, so their sum falls short of W times the number of those above 0 by one at least for each of them
   remainders-low : sumBelow n remainder + reaching n remainder 1 ≤ reaching n remainder 1 * W
   unfolding reaching
   remainders-low =
       rw (← (sumBelow-plus n remainder (λ k. cond (leb 1 (remainder k)) 1 0)), ← (sum-times n (λ k. cond (leb 1 (remainder k)) 1 0) W))
-      (terms-le n _ _ (λ k l. low k))
+      (sumBelow-le n _ _ (λ k l. low k))
     where
       low : (k : ℕ) → remainder k + cond (leb 1 (remainder k)) 1 0 ≤ cond (leb 1 (remainder k)) 1 0 * W
       low k =
@@ -332,6 +332,3 @@ module _ (n : ℕ) (weight : ℕ → ℕ) (advance : ℕ) (some : sumBelow n wei
       let nothing : filledValue n weight advance k * W < 1 * W = omega arith in
       let is = lt-of-mul-lt-mul-right W nothing in
       omega arith
-
-  pub filled-low : (k : ℕ) → k < n → filledValue n weight advance k ≤ advance
-  filled-low k h = let one = term-le-sum n (filledValue n weight advance) k h in let all = filled-sum in omega arith

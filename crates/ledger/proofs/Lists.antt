@@ -12,7 +12,7 @@ use lib.Seq.{sets, set-at, drop-cons, getD-set-same, getD-set-other, getD-at, ge
 use lib.Arith.{digits-div}
 use lib.Dec.{eqb}
 use borrow.Author.Tests.{eq-eqb, ne-eqb}
-use Rattle.metering.specs.Sum.{sumBelow, sumBelow-suc}
+use Rattle.metering.specs.Sum.{sumBelow, sumBelow-suc, sumBelow-le}
 use Rattle.ledger.specs.Calls.{overwritten}
 use Rattle.ledger.specs.Table.{tabulate, filling}
 
@@ -151,11 +151,6 @@ sumBelow-ones (suc n) = rw (sumBelow-ones n) (omega arith)
 
 -- term by term
 
-pub terms-le : (n : ℕ) (f g : ℕ → ℕ) → ((k : ℕ) → k < n → f k ≤ g k) → sumBelow n f ≤ sumBelow n g
-unfolding sumBelow
-terms-le zero f g h = omega arith
-terms-le (suc n) f g h = let before = terms-le n f g (λ k l. h k (omega arith)) in let here = h n (omega arith) in omega arith
-
 pub term-le-sum : (n : ℕ) (f : ℕ → ℕ) (k : ℕ) → k < n → f k ≤ sumBelow n f
 unfolding sumBelow
 term-le-sum zero f k l = absurd (omega arith)
@@ -168,7 +163,7 @@ terms-lt zero f g k l h less = absurd (omega arith)
 terms-lt (suc n) f g k l h less =
     below-suc (λ x. f x < g x → sumBelow n f + f n < sumBelow n g + g n) n
     (λ x m here. let before = terms-lt n f g x m (λ i a. h i (omega arith)) here in let last = h n (omega arith) in omega arith)
-    (λ here. let before = terms-le n f g (λ i a. h i (omega arith)) in omega arith)
+    (λ here. let before = sumBelow-le n f g (λ i a. h i (omega arith)) in omega arith)
     k l less
 
 pub sum-so-far : (n : ℕ) (f : ℕ → ℕ) (k : ℕ) → k ≤ n → sumBelow k f ≤ sumBelow n f

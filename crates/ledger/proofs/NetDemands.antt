@@ -6,22 +6,21 @@ use mathlib.Core.Bool.{Bool, true, false, not, _||_, cond, and-eq-true-iff, or-t
 use mathlib.Core.List.{List, [], _∷_, _++_, map, map-append}
 use native.Mathlib.Omega.{arith}
 use native.Mathlib.Nat.{add-zero}
-use lib.Dec.{eqb, ltb}
+use lib.Dec.{eqb}
 use lib.ListN.{length, length-append}
 use lib.IntN.{ℤ, pos, negℤ, _+ℤ_, _-ℤ_, +ℤ-assoc, +ℤ-idl, +ℤ-idr}
 use borrow.Table.Steps.{cases}
-use borrow.Author.Tests.{eq-eqb, ne-eqb, eqb-true, eqb-false, ltb-false, le-ltb}
+use borrow.Author.Tests.{eq-eqb, ne-eqb, eqb-true, eqb-false}
 use Rattle.metering.specs.Sum.{sumBelow}
 use Rattle.ledger.specs.Method.{Category, isSmart, Flag, A, D, E, N, Cell, Fresh, absent, own, pooled, blank, carried, cellFrom, Day, notRun, ran, cellOf, cellOn, totOn, totalsOn}
 use Rattle.ledger.specs.Table.{tabulate, chosenBelow}
 use Rattle.ledger.specs.Net.{activeImport, activeExport, withQuantity, onSide, sideOf, sumOver, anyOf, signedSum, isN, netPeriod, markOf, netTot, netOn}
-use Rattle.ledger.specs.Checks.{openingCheck, listsShort, mayNet, netCheck, totalsInRange}
-use Rattle.ledger.specs.Ledger.{Opening, categories, dates, periods, category, Ledger, cellsShort, cellBy, cellAt, isRun, dayOf, totalsAt, ledgerNetCheck, sideAt, netAt, ledgerAnswer}
+use Rattle.ledger.specs.Checks.{openingCheck, mayNet, netCheck, totalsInRange}
+use Rattle.ledger.specs.Ledger.{Opening, categories, dates, periods, category, Ledger, cellBy, cellAt, isRun, dayOf, totalsAt, ledgerNetCheck, sideAt, netAt, ledgerAnswer}
 use Rattle.ledger.specs.Engine.{Every}
-use Rattle.ledger.specs.Demands.{SameKey, CellsLong, SameFamily, OnSide, SideExact, Paired, NetExact, OwnGroupPair, signedTotal, NetTotIsSum, NetOfTotals, OwnGroupNetOfTotals, MarkExact, NothingNetsToZero, SidesExchanged}
-use Rattle.ledger.proofs.Choices.{neither}
+use Rattle.ledger.specs.Demands.{SameKey, SameFamily, OnSide, SideExact, Paired, NetExact, OwnGroupPair, signedTotal, NetTotIsSum, NetOfTotals, OwnGroupNetOfTotals, MarkExact, NothingNetsToZero, SidesExchanged}
 use Rattle.ledger.proofs.FirstFailed.{finds-none, finds-row, goes-by}
-use Rattle.ledger.proofs.CallDemands.{not-iff, date-iff, below-iff, cells-iff, ran-iff, keys-differ, family-iff}
+use Rattle.ledger.proofs.CallDemands.{not-iff, date-iff, below-iff, lists-iff, ran-iff, keys-differ, family-iff}
 use Rattle.ledger.proofs.Lists.{tabulate-at, getD-tabulate, tabulate-ext}
 use Rattle.ledger.proofs.Chosen.{chosen-pass, chosen-none}
 use Rattle.ledger.proofs.Nets.{sumOver-append, sumOver-one, anyOf-append, tot-minus, tot7-minus, period-swapped, tot-swapped, tot7-swapped, mark-swapped}
@@ -325,19 +324,12 @@ net-iff o allGroups c = (
 )
 
 pub net-exact : NetExact
-unfolding ledgerAnswer ledgerNetCheck netCheck totalsInRange listsShort
+unfolding ledgerAnswer ledgerNetCheck netCheck totalsInRange
 net-exact l n a =
     goes-by (ledgerNetCheck l n a) _ refl
-    (finds-row refl long-iff
+    (finds-row refl (lists-iff (l .opening) n (a .numbers) (a .marks))
     (finds-row refl (date-iff (dates (l .opening)) (a .date))
     (finds-row refl (not-iff _ (below-iff (categories (l .opening)) (a .category)))
     (finds-row refl (not-iff _ (net-iff (l .opening) (a .allGroups) (a .category)))
     (finds-row refl (not-iff _ (ran-iff l (a .date)))
     finds-none)))))
-  where
-    long-iff : ((cellsShort (l .opening) n || (ltb (a .numbers) (periods (l .opening)) || ltb (a .marks) (periods (l .opening)))) ≡ false)
-        ↔ (CellsLong (l .opening) n × (periods (l .opening) ≤ a .numbers) × (periods (l .opening) ≤ a .marks))
-    long-iff = (
-      λ e. let p = neither _ _ e in let q = neither _ _ (p .1) in (cells-iff (l .opening) n .0 (p .0), ltb-false _ _ (q .0), ltb-false _ _ (q .1)),
-      λ h. rw (cells-iff (l .opening) n .1 (h .0), le-ltb _ _ (h .1), le-ltb _ _ (h .2)),
-    )

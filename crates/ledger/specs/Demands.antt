@@ -737,20 +737,6 @@ LeftOverFew =
     (periods : ℕ) (weight : ℕ → ℕ) (advance : ℕ) → mayFill periods weight ≡ true →
     (leftOver periods weight advance ≡ 0) ⊎ (leftOver periods weight advance < length (chosenBelow periods (λ k. ltb 0 (remainderOf periods weight advance k))))
 
--- worked: four periods with the values 500, 300, 300 and 0
-abbrev pub workedWeight : List ℕ → ℕ → ℕ
-workedWeight marks = weightBy marks (λ k. getD (500 ∷ 300 ∷ 300 ∷ 0 ∷ []) k 0)
-
-abbrev pub FillWorked : Type 0
-FillWorked =
-    (filledValues 4 (workedWeight (1 ∷ 1 ∷ 1 ∷ 1 ∷ [])) 100 ≡ 46 ∷ 27 ∷ 27 ∷ 0 ∷ [])
-    × (filledValues 4 (workedWeight (0 ∷ 1 ∷ 255 ∷ 0 ∷ [])) 1001 ≡ 0 ∷ 501 ∷ 500 ∷ 0 ∷ [])
-    × (filledValues 4 (workedWeight (1 ∷ 1 ∷ 1 ∷ 0 ∷ [])) 2 ≡ 1 ∷ 1 ∷ 0 ∷ 0 ∷ [])
-    × (filledValues 4 (workedWeight (1 ∷ 1 ∷ 0 ∷ 0 ∷ [])) 4294967295 ≡ 2684354559 ∷ 1610612736 ∷ 0 ∷ 0 ∷ [])
-    × (filledValues 4 (workedWeight (0 ∷ 0 ∷ 1 ∷ 0 ∷ [])) 7 ≡ 0 ∷ 0 ∷ 7 ∷ 0 ∷ [])
-    × (mayFill 4 (workedWeight (0 ∷ 0 ∷ 0 ∷ 1 ∷ [])) ≡ false)
-    × (mayFill 4 (workedWeight (0 ∷ 0 ∷ 0 ∷ 0 ∷ [])) ≡ false)
-
 -- a fill changes nothing
 abbrev pub FillLeavesAll : Type 0
 FillLeavesAll = (l : Ledger) (n : Lengths) (p : Parts) (a : FillCall) → (ledgerAfter l n (fillHole a) ≡ l) × (leaves p (fillHole a) ≡ p)

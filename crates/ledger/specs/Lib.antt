@@ -4,7 +4,6 @@ pub mod Table
 pub mod Net
 pub mod Band
 pub mod Fill
-pub mod Threshold
 pub mod Opening
 pub mod Checks
 pub mod Sizes
@@ -15,3 +14,4 @@ pub mod Calls
 pub mod Engine
 pub mod Demands
 pub mod Marked
+pub mod Threshold

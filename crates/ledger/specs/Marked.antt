@@ -269,7 +269,7 @@ fillCalls =
     ∷ sends exampleMpan 0 1 (half 30 500 (half 60 300 (half 90 300 (half 120 0 []))))
     ∷ run 0
     ∷ asksFill 100 (missing 1 1 1 1 0)
-    ∷ asksFill 1001 (missing 0 1 1 0 0)
+    ∷ asksFill 1001 (missing 0 1 255 0 0)
     ∷ asksFill 2 (missing 1 1 1 0 0)
     ∷ asksFill 4294967295 (missing 1 1 0 0 0)
     ∷ asksFill 100 (missing 0 0 0 1 1)

@@ -1,4 +1,5 @@
--- Who gets one of the Wh left over, found by a threshold: of the remainders above it each does, of those equal to it the earlier ones.
+-- For the code's contracts, and no part of what is promised: who gets one of the Wh left over, found by a threshold. Of the remainders above it
+-- each does, of those equal to it the earlier ones.
 use Prim.Native.Nat.{ℕ}
 use mathlib.Core.Bool.{cond}
 use lib.Dec.{leb, eqb}

@@ -83,7 +83,7 @@ digit-last n = rw div-one
 pub weightedSum-le : (n : ℕ) → weightedSum n ≤ 2412
 unfolding weightedSum sumBelow product weights
 weightedSum-le n =
-    sumBelow-le 12 (product n) (λ i. getD weights i 0 * 9) (λ i. mul-le-mul-left (getD weights i 0) (digit-le n i))
+    sumBelow-le 12 (product n) (λ i. getD weights i 0 * 9) (λ i l. mul-le-mul-left (getD weights i 0) (digit-le n i))
 
 pub mpanValid-bounds : (n : ℕ) → mpanValid n ≡ true → (0 < n) × (n ≤ 9999999999999)
 unfolding mpanValid

@@ -1,6 +1,5 @@
 -- Laws that the proofs of the net read share.
 pub mod SideLaws
 pub mod SignedLaws
-pub mod CheckLaws
 pub mod NetLaws
 pub mod ReadLaws

@@ -1,31 +1,32 @@
 -- What a net read answers and leaves, where a check fails and where none does.
 use Prim.Native.Nat.{ℕ, zero, suc, _≤_, _<_}
-use mathlib.Core.Path.{_≡_, refl, ap, _∙_}
-use mathlib.Core.Bool.{Bool, not, cond}
+use mathlib.Core.Path.{_≡_, refl, sym, ap, _∙_}
+use mathlib.Core.Bool.{Bool, true, not, cond}
 use mathlib.Core.List.{List, [], _∷_}
 use native.Mathlib.Omega.{arith}
 use native.Mathlib.Nat.{not-suc-le-zero}
 use lib.IntN.{ℤ}
+use borrow.Author.Tests.{not-false}
 use lib.ListN.{length, getD, take}
 use lib.Seq.{getD-take}
 use Rattle.ledger.specs.Net.{activeImport, activeExport, sideOf, Net, netOn}
-use Rattle.ledger.specs.Checks.{mayNet}
+use Rattle.ledger.specs.Checks.{mayNet, netCheck}
 use Rattle.ledger.specs.Ledger.{answer, left, refused, netIs}
-use Rattle.ledger.specs.Store.{categoriesOf, periodsOf, rowLength, isRunAt}
+use Rattle.ledger.specs.Store.{categoriesOf, periodsOf, rowLength, categoryOf, isRunAt}
 use Rattle.ledger.specs.Calls.{cellFor, sideFor, netVerdict, netFor, overwritten}
 use Rattle.ledger.specs.Engine.{Every}
 use Rattle.ledger.proofs.Lists.{length-tabulate, front-is}
 use Rattle.ledger.proofs.Chosen.{chosen-below}
+use Rattle.ledger.proofs.Choices.{check-passed}
 use Rattle.ledger.proofs.Verdicts.{refused-is, kept-is, given-is, after-is}
 use Rattle.store.specs.declared.column.Column.{Column}
 use Rattle.store.specs.Column.{columnOf}
 use Rattle.reads.specs.ReadAccepted.{ReadAccepted}
-use Rattle.reads.proofs.CheckLaws.{passed-reaches, passed-run, rangeNumber}
+use Rattle.reads.proofs.CheckLaws.{passed-reaches, passed-run, rangeNumber, range-decides, range-leaves}
 use Rattle.net.specs.Asked.{netCall}
 use Rattle.net.specs.Sides.{Listed, pairedWith}
 use Rattle.net.specs.Walk.{Among, MayWrite, NetWritten}
 use Rattle.net.proofs.SideLaws.{found-count}
-use Rattle.net.proofs.CheckLaws.{range-decides, pair-decides}
 
 -- ---- members
 
@@ -68,7 +69,17 @@ may-write s cells allGroups date category e p i x n m =
 
 -- ---- the answer
 
+-- where 14 is not given the date is run
+pub pair-passed : (s cells : List ℕ) (date category exports m : ℕ) →
+    m ≡ cond (not (pairedWith s category exports)) 26 (cond (not (isRunAt (rowLength s) cells date)) 14 0) → m ≡ 0 → isRunAt (rowLength s) cells date ≡ true
+pair-passed s cells date category exports m is e =
+    not-false _ (check-passed (not (isRunAt (rowLength s) cells date)) 13 0 (check-passed (not (pairedWith s category exports)) 25 _ (sym is ∙ e) .1) .0)
+
 module _ (s cells : List ℕ) (allGroups : Bool) (date category : ℕ) (numbers : List ℤ) (marks : List ℕ) where
+  -- 26 and 14
+  abbrev rest : ℕ
+  rest = cond (not (mayNet (categoryOf s) (categoriesOf s) allGroups category)) 26 (cond (not (isRunAt (rowLength s) cells date)) 14 0)
+
   -- a number that a check gave
   pub refuses : (n : ℕ) → n ≡ netVerdict s cells (netCall allGroups date category numbers marks) .number → (n ≡ 0 → ⊥) →
       (refused n 0 ≡ answer (netVerdict s cells (netCall allGroups date category numbers marks)) (netIs (netFor s cells (netCall allGroups date category numbers marks))))
@@ -79,15 +90,15 @@ module _ (s cells : List ℕ) (allGroups : Bool) (date category : ℕ) (numbers 
 
   pub by-range : (n : ℕ) → n ≡ rangeNumber s cells (length numbers) (length marks) date category → (n ≡ 0 → ⊥) →
       n ≡ netVerdict s cells (netCall allGroups date category numbers marks) .number
-  unfolding netVerdict
-  by-range n is fails = range-decides _ _ _ _ _ _ n is fails
+  unfolding netVerdict netCheck
+  by-range n is fails = range-decides s cells (length numbers) (length marks) date category rest n is fails
 
   pub by-pair : (n m : ℕ) (found : List ℕ) (count : ℕ) → n ≡ rangeNumber s cells (length numbers) (length marks) date category → n ≡ 0 →
       Listed (sideFor s allGroups activeExport category) found count →
       m ≡ cond (not (pairedWith s category count)) 26 (cond (not (isRunAt (rowLength s) cells date)) 14 0) →
       m ≡ netVerdict s cells (netCall allGroups date category numbers marks) .number
-  unfolding netVerdict mayNet sideFor pairedWith
-  by-pair n m found count is none l e = pair-decides _ _ _ _ _ _ n m is none (e ∙ rw (← (found-count l)))
+  unfolding netVerdict netCheck mayNet sideFor pairedWith
+  by-pair n m found count is none l e = e ∙ rw (← (found-count l)) (range-leaves s cells (length numbers) (length marks) date category rest n is none)
 
   -- the lists and numbers of the net, at the front of the lists lent
   periods-long : length (netFor s cells (netCall allGroups date category numbers marks) .periods) ≡ periodsOf s

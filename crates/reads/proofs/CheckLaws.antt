@@ -1,13 +1,13 @@
 -- The checks of a read: what holds where they pass, and which number they give.
 use Prim.Native.Nat.{ℕ, suc, _≤_, _<_}
-use mathlib.Core.Path.{_≡_, refl, _∙_}
+use mathlib.Core.Path.{_≡_, refl, sym, _∙_}
 use mathlib.Core.Bool.{Bool, true, false, not, _&&_, _||_, cond, and-eq-true-iff}
 use mathlib.Core.List.{List}
 use native.Mathlib.Omega.{arith}
 use borrow.Author.Tests.{leb-true, leb-false, ltb-true, ltb-false, ne-eqb, not-false}
 use lib.Dec.{leb}
 use Rattle.metering.specs.Range.{between}
-use Rattle.ledger.specs.Checks.{firstNumber, runCheck, readCheck, totalsInRange, cellInRange, listsShort}
+use Rattle.ledger.specs.Checks.{firstNumber, runCheck, rangeCheck, readCheck, totalsInRange, cellInRange, listsShort}
 use Rattle.ledger.specs.Store.{categoriesOf, datesOf, periodsOf, rowLength, settingsReady, cellsReady}
 use Rattle.ledger.specs.Calls.{cellsUnready, totalsVerdict, cellVerdict}
 use Rattle.ledger.proofs.Choices.{check-passed, neither}
@@ -96,8 +96,7 @@ module _ (settings cells : List ℕ) (first second : ℕ) where
 
   abbrev pub rangeNumber : ℕ → ℕ → ℕ
   rangeNumber date category =
-      cond (cellsUnready settings cells || listsShort (periodsOf settings) first second) 1
-      (cond (leb (datesOf settings) date) 9 (cond (not (totalsInRange (categoriesOf settings) category)) 15 0))
+      rangeCheck (cellsUnready settings cells || listsShort (periodsOf settings) first second) (datesOf settings) date (totalsInRange (categoriesOf settings) category) 0
 
   pub range-passed : (date category : ℕ) → rangeNumber date category ≡ 0 →
       Long settings cells first second × (date < datesOf settings) × (category < categoriesOf settings)
@@ -121,6 +120,30 @@ pub first-number : (failed : Bool) (n : ℕ) {p q r x : ℕ} → p ≡ cond fail
 unfolding firstNumber
 first-number true n a b e = e ∙ rw (a, ne-eqb (suc n) 0 (λ (z : suc n ≡ 0). omega arith))
 first-number false n a b e = e ∙ rw (a, b)
+
+-- 1, 9 and 15 decide where one of them is given, and else the rest does
+decides : (n rest : ℕ) (a b c : Bool) → n ≡ cond a 1 (cond b 9 (cond c 15 0)) → (n ≡ 0 → ⊥) → n ≡ cond a 1 (cond b 9 (cond c 15 rest))
+decides n rest true b c e some = e
+decides n rest false true c e some = e
+decides n rest false false true e some = e
+decides n rest false false false e some = absurd (some e)
+
+leaves : (rest : ℕ) (a b c : Bool) → _≡_ {A = ℕ} (cond a 1 (cond b 9 (cond c 15 0))) 0 → rest ≡ cond a 1 (cond b 9 (cond c 15 rest))
+leaves rest true b c z = absurd (omega arith)
+leaves rest false true c z = absurd (omega arith)
+leaves rest false false true z = absurd (omega arith)
+leaves rest false false false z = refl
+
+module _ (settings cells : List ℕ) (first second date category rest n : ℕ) (e : n ≡ rangeNumber settings cells first second date category) where
+  abbrev pub rangeThen : ℕ
+  rangeThen =
+      rangeCheck (cellsUnready settings cells || listsShort (periodsOf settings) first second) (datesOf settings) date (totalsInRange (categoriesOf settings) category) rest
+
+  pub range-decides : (n ≡ 0 → ⊥) → n ≡ rangeThen
+  range-decides some = decides n rest (cellsUnready settings cells || listsShort (periodsOf settings) first second) (leb (datesOf settings) date) (not (totalsInRange (categoriesOf settings) category)) e some
+
+  pub range-leaves : n ≡ 0 → rest ≡ rangeThen
+  range-leaves none = leaves rest (cellsUnready settings cells || listsShort (periodsOf settings) first second) (leb (datesOf settings) date) (not (totalsInRange (categoriesOf settings) category)) (sym e ∙ none)
 
 first : (short late : Bool) (rest n : ℕ) → n ≡ cond short 1 (cond late 9 0) → (n ≡ 0 → ⊥) → n ≡ cond short 1 (cond late 9 rest)
 first true late rest n e h = e

@@ -52,7 +52,7 @@ sum-of-day n f = sum-alike n (λ k. rw (zero-add k))
 off-below : (column : Column) (window : Stretch) (cells : List ℕ) (d : ℕ) → dayFigures column window cells d .off ≤ dayFigures column window cells d .tot
 off-below column window cells d =
     sumBelow-le (column .periods) (λ k. cond (covers window k) (valueAfter column cells d k) 0) (valueAfter column cells d)
-    (λ k. part-below (covers window k) (valueAfter column cells d k))
+    (λ k h. part-below (covers window k) (valueAfter column cells d k))
 
 pub day-off-below : {column : Column} {window : Stretch} {cells : List ℕ} {d : ℕ} {r : DayFigures} → DayFigured column window cells d r → r .off ≤ r .tot
 day-off-below {column} {window} {cells} {d} f = rw (f .is) (off-below column window cells d)

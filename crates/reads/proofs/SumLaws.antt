@@ -37,7 +37,7 @@ sum-nothing (suc n) = rw (sumBelow-suc, sum-nothing n)
 sum-minus : (n : ℕ) (f g : ℕ → ℕ) → ((k : ℕ) → g k ≤ f k) → sumBelow n (λ k. f k - g k) ≡ sumBelow n f - sumBelow n g
 sum-minus zero f g less = rw (sumBelow-zero (λ k. f k - g k), sumBelow-zero f, sumBelow-zero g)
 sum-minus (suc n) f g less =
-    let l = sumBelow-le n g f less in
+    let l = sumBelow-le n g f (λ k l. less k) in
     let h = less n in
     rw (sumBelow-suc n (λ k. f k - g k), sumBelow-suc n f, sumBelow-suc n g, sum-minus n f g less) (omega arith)
 
@@ -69,7 +69,7 @@ module _ (isRun : ℕ → Bool) (n d : ℕ) (f g : ℕ → ℕ) (less : (x : ℕ
 
   pub over-below : overRunDates isRun n g d ≤ overRunDates isRun n f d
   unfolding overRunDates
-  over-below = sumBelow-le n (term isRun g d) (term isRun f d) term-below
+  over-below = sumBelow-le n (term isRun g d) (term isRun f d) (λ k l. term-below k)
 
   over-minus : overRunDates isRun n (λ x. f x - g x) d ≡ overRunDates isRun n f d - overRunDates isRun n g d
   unfolding overRunDates

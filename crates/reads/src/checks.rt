@@ -10,7 +10,7 @@ ghost use mathlib.Core.Path.{_≡_};
 ghost use mathlib.Core.Bool.{true, not, _||_, cond};
 ghost use Prim.Native.Nat.{_<_};
 ghost use lib.Dec.{leb};
-ghost use Rattle.ledger.specs.Checks.{firstNumber, runCheck, totalsInRange, cellInRange, listsShort};
+ghost use Rattle.ledger.specs.Checks.{firstNumber, runCheck, rangeCheck, totalsInRange, cellInRange, listsShort};
 ghost use Rattle.ledger.specs.Store.{categoriesOf, datesOf, periodsOf, rowLength, settingsReady, cellsReady, isRunAt};
 ghost use Rattle.ledger.specs.Calls.{cellsUnready, totalsVerdict, cellVerdict};
 
@@ -44,7 +44,7 @@ fn lent_number(settings: &[u8], cells: &[u64], date: u64) -> u64
     date_number(settings, date)
 }
 
-// 15, for a totals read.
+// 15, by the category alone.
 pub fn category_number(settings: &[u8], category: u64) -> u64
     requires { ⌜ settingsReady (now settings) ≡ true ⌝ }
     ensures { λ r. ⌜ r ≡ cond (not (totalsInRange (categoriesOf (now (settings .entry))) category)) 15 0 ⌝ }
@@ -78,7 +78,7 @@ pub fn range_number(
     first: u64,
     second: u64,
 ) -> u64
-    ensures { λ r. ⌜ r ≡ cond (cellsUnready (now (settings .entry)) (now (cells .entry)) || listsShort (periodsOf (now (settings .entry))) first second) 1 (cond (leb (datesOf (now (settings .entry))) date) 9 (cond (not (totalsInRange (categoriesOf (now (settings .entry))) category)) 15 0)) ⌝ }
+    ensures { λ r. ⌜ r ≡ rangeCheck (cellsUnready (now (settings .entry)) (now (cells .entry)) || listsShort (periodsOf (now (settings .entry))) first second) (datesOf (now (settings .entry))) date (totalsInRange (categoriesOf (now (settings .entry))) category) 0 ⌝ }
 {
     if too_short(settings, cells, first, second) {
         return 1;

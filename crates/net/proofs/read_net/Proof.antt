@@ -9,9 +9,8 @@ use Rattle.ledger.specs.Calls.{netVerdict}
 use Rattle.reads.specs.ReadAccepted.{ReadAccepted}
 use Rattle.net.specs.Asked.{netCall}
 use Rattle.reads.proofs.CheckLaws.{Long, range-passed}
-use Rattle.net.proofs.CheckLaws.{pair-passed}
 use Rattle.net.proofs.NetLaws.{net-asked}
-use Rattle.net.proofs.ReadLaws.{may-write, refuses, by-range, by-pair, accepts}
+use Rattle.net.proofs.ReadLaws.{may-write, pair-passed, refuses, by-range, by-pair, accepts}
 use Rattle.net.proofs.read_net.Statement.{statement}
 use Rattle.net.proofs.read_net.Tie as tie
 
