@@ -1,8 +1,8 @@
 -- Laws of rows of entries: made from a function, while they are filled, a part of one, and counts of moved entries.
-use Prim.Native.Nat.{ℕ, zero, suc, _+_, _*_, _≤_, _<_, zero-le}
+use Prim.Native.Nat.{ℕ, zero, suc, _+_, _≤_, _<_, zero-le}
 use mathlib.Core.Path.{_≡_, sym, ap, _∙_}
 use mathlib.Core.List.{List, [], _∷_, _++_, append-assoc, append-nil}
-use native.Mathlib.Nat.{add-zero, add-suc, add-le-add, add-mul, suc-mul}
+use native.Mathlib.Nat.{add-zero, add-suc}
 use native.Mathlib.Numerals.{add-one}
 use native.Mathlib.Omega.{arith}
 use lib.Dec.{eqb}
@@ -10,7 +10,7 @@ use lib.ListN.{length, getD, take, drop, List·getD-append}
 use lib.Seq.{drop-cons, getD-at, drop-length, getD-append-add, getD-drop, getD-take, take-at, drop-at, drop-drop}
 use borrow.Table.Steps.{cases}
 use borrow.Author.Tests.{eqb-true, eqb-false}
-use Rattle.metering.specs.Sum.{sumBelow, sumBelow-suc, sumBelow-zero}
+use Rattle.metering.specs.Sum.{sumBelow-suc, sumBelow-zero}
 use Rattle.ledger.proofs.Lists.{length-tabulate, getD-tabulate, tabulate-ext, filled, sumBelow-cong, sumBelow-more}
 use Rattle.ledger.specs.Table.{tabulate, filling}
 use Rattle.ledger.specs.Calls.{differing, movedEntry}
@@ -70,20 +70,6 @@ filled-whole f xs ys k n so is whole =
 
 pub part-at : (xs : List ℕ) (at n p : ℕ) → p < n → getD (take n (drop at xs)) p 0 ≡ getD xs (at + p) 0
 part-at xs at n p l = getD-take n (drop at xs) p 0 l ∙ getD-drop at xs p 0
-
--- ---- sums
-
--- a sum of terms that are each at most w times another's
-pub sumBelow-times : (n w : ℕ) (f g : ℕ → ℕ) → ((k : ℕ) → k < n → f k ≤ g k * w) → sumBelow n f ≤ sumBelow n g * w
-unfolding sumBelow
-sumBelow-times zero w f g h = zero-le
-sumBelow-times (suc n) w f g h =
-    rw (add-mul (sumBelow n g) (g n) w) (add-le-add (sumBelow-times n w f g (λ k l. h k (omega arith))) (h n (omega arith)))
-
-pub sumBelow-most : (n b : ℕ) (f : ℕ → ℕ) → ((k : ℕ) → k < n → f k ≤ b) → sumBelow n f ≤ n * b
-unfolding sumBelow
-sumBelow-most zero b f h = zero-le
-sumBelow-most (suc n) b f h = rw (suc-mul n b) (add-le-add (sumBelow-most n b f (λ k l. h k (omega arith))) (h n (omega arith)))
 
 -- ---- differences
 

@@ -1,23 +1,24 @@
 -- What is divided and handed out is what the ledger's definition gives.
-use Prim.Native.Nat.{ℕ, zero, suc, _+_, _-_, _*_, _/_, _%_, _≤_, _<_}
-use mathlib.Core.Path.{_≡_, refl, sym, _∙_}
+use Prim.Native.Nat.{ℕ, suc, _+_, _-_, _*_, _/_, _%_, _≤_, _<_}
+use mathlib.Core.Path.{_≡_, sym, _∙_}
 use mathlib.Core.Logic.{_≢_}
 use mathlib.Core.Bool.{_&&_, _||_, cond}
 use mathlib.Core.List.{List}
 use native.Mathlib.Omega.{arith}
-use native.Mathlib.Nat.{mul-le-mul-left, mul-le-mul-right}
+use native.Mathlib.Nat.{pos-of-ne-zero, mul-le-mul-left, mul-le-mul-right}
 use native.Mathlib.Numerals.{add-one}
 use borrow.Table.Steps.{cases}
-use borrow.Author.Tests.{lt-ltb, le-ltb, ltb-true, ltb-false, lt-leb}
-use lib.Dec.{leb, ltb, eqb}
+use borrow.Author.Tests.{lt-ltb, le-ltb, ltb-true, ltb-false}
+use lib.Dec.{ltb, eqb}
 use lib.ListN.{length, getD}
 use Rattle.metering.specs.Sum.{sumBelow, sumBelow-suc, sumBelow-zero}
 use Rattle.ledger.specs.Table.{filling}
 use Rattle.ledger.specs.Fill.{weightBy, wholePart, remainderOf, filledValue, filledValues}
 use Rattle.ledger.specs.Calls.{overwritten}
 use Rattle.ledger.specs.Threshold.{reaching, equalTo}
-use Rattle.ledger.proofs.Lists.{sumBelow-none, filled-long, filling-at, written-is}
-use Rattle.ledger.proofs.Fills.{before-cong, reaching-zero, reaching-next, threshold-tells, part-and-remainder, part-so-far, part-low, left-over-low}
+use Rattle.ledger.proofs.Lists.{filled-long, written-is}
+use Rattle.ledger.proofs.Fills.{before-cong, reaching-zero, reaching-next, none-reaches, threshold-tells, part-and-remainder, part-so-far, part-low, left-over-low}
+use Rattle.entries.proofs.RowLaws.{filling-below}
 use Rattle.store.specs.declared.column.Column.{Column}
 use Rattle.store.specs.Column.{Reaches}
 use Rattle.reads.specs.Sums.{Figure, Summed}
@@ -37,19 +38,15 @@ weighed column cells marks d k f = f
 -- what is known where a sum of the missing periods' values is not 0
 pub may-share : {cells : List ℕ} {column : Column} {d : ℕ} {marks : List ℕ} {sum : ℕ} (advance : ℕ) → Reaches cells column d → column .periods ≤ length marks →
     Summed (column .periods) 4294967295 (weightIn column cells d marks) sum → (sum ≡ 0 → ⊥) → advance < 4294967296 → MayShare cells column d marks sum advance
-may-share {sum = sum} advance reaches marked summed some small =
+may-share advance reaches marked summed some small =
     record {
       reaches = reaches;
       marked = marked;
       summed = summed .is;
-      some = positive sum some;
+      some = pos-of-ne-zero some;
       low = let most = reaches .periods .1 in omega (arith, summed .small);
       small = omega arith;
     }
-  where
-    positive : (x : ℕ) → (x ≡ 0 → ⊥) → 1 ≤ x
-    positive zero h = absurd (h refl)
-    positive (suc x) h = omega arith
 
 -- ---- parts, remainders and what they leave
 
@@ -93,12 +90,6 @@ pub next-handed : (parts remainders : List ℕ) (t spare k : ℕ) {rest r : ℕ}
 next-handed parts remainders t spare k so f = rw (f .is, so)
 
 -- ---- the threshold
-
--- no remainder reaches what all are below
-none-above : (n : ℕ) (remainder : ℕ → ℕ) (t left : ℕ) → ((k : ℕ) → k < n → remainder k < t) → reaching n remainder (suc t) ≤ left
-unfolding reaching
-none-above n remainder t left h =
-    let none = sumBelow-none n (λ k. cond (leb (suc t) (remainder k)) 1 0) (λ k l. let low = h k l in rw (lt-leb (suc t) (remainder k) (omega arith))) in omega arith
 
 -- while it is searched: at most `left` remainders are above the upper bound, and at least `left` reach the lower one
 pub record Between (n : ℕ) (remainder : ℕ → ℕ) (left most low high : ℕ) : Type 0 where
@@ -159,10 +150,10 @@ spare-is left above equal =
 module _ (n : ℕ) (weight : ℕ → ℕ) (advance : ℕ) (parts parts′ remainders remainders′ : List ℕ) (left : ℕ)
     (divided : Divided n weight advance parts parts′ remainders remainders′ left) where
   part-is : (k : ℕ) → k < n → getD parts′ k 0 ≡ wholePart n weight advance k
-  part-is k h = rw (divided .parts-are) (filling-at n (wholePart n weight advance) parts k h)
+  part-is k h = rw (divided .parts-are) (filling-below (wholePart n weight advance) parts n k h)
 
   remainder-is : (k : ℕ) → k < n → getD remainders′ k 0 ≡ remainderOf n weight advance k
-  remainder-is k h = rw (divided .remainders-are) (filling-at n (remainderOf n weight advance) remainders k h)
+  remainder-is k h = rw (divided .remainders-are) (filling-below (remainderOf n weight advance) remainders n k h)
 
   -- each period gets what the definition gives it
   handed-is : (t above most : ℕ) → Tells n (λ k. getD remainders′ k 0) left most t → above ≡ reaching n (λ k. getD remainders′ k 0) (suc t) → (k : ℕ) → k < n →
@@ -186,7 +177,7 @@ module _ (n : ℕ) (weight : ℕ → ℕ) (advance : ℕ) (parts parts′ remain
         record {
           few = few;
           long = filled-long _ remainders remainders′ n (divided .remainders-are) (omega arith) ∙ remainders-long;
-          none-above = none-above n _ sum left (λ k h. rw (remainder-is k h, is) (part-and-remainder n weight advance non-zero k .1));
+          none-above = let none = none-reaches n (λ k. getD remainders′ k 0) sum (λ k h. let low = part-and-remainder n weight advance non-zero k .1 in rw (remainder-is k h, is) (omega arith)) in omega arith;
           enough = rw (divided .left-is) (left-over-low n weight advance non-zero);
           low = low;
         }

@@ -28,7 +28,8 @@ use Rattle.ledger.specs.Ready.{Ready, ready, periods-bound, row-bounds}
 use Rattle.ledger.proofs.Open.{sizes-valid}
 use Rattle.ledger.proofs.Choices.{check-passed}
 use Rattle.ledger.proofs.Chosen.{chosen-few}
-use Rattle.entries.proofs.RowLaws.{sumBelow-most, differing-le}
+use Rattle.ledger.proofs.Lists.{sumBelow-most}
+use Rattle.entries.proofs.RowLaws.{differing-le}
 use Rattle.store.specs.declared.outcome.Outcome.{Outcome}
 use Rattle.store.specs.declared.outcome.Outcome.the-variants as outcome
 use Rattle.store.specs.declared.outcome.NetOutcome.{NetOutcome}

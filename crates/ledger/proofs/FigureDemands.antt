@@ -16,13 +16,13 @@ use Rattle.metering.specs.Average.{annual}
 use Rattle.metering.specs.Calendar.{liesWithin, windowStart, windowEnd}
 use Rattle.metering.specs.Laws.{average-is, annual-is, duration-pos, window-0-empty}
 use Rattle.ledger.specs.Method.{Category, Picture, Fresh, absent, freshIn, Flag, A, D, E, N, flagNumber, isFresh, isBlank, blank, carried, cellFrom, Day, notRun, ran, latest, overRunDates, totOn, offOn, peakOn, totalsOn}
-use Rattle.ledger.specs.Table.{tabulate, chosenBelow}
+use Rattle.ledger.specs.Table.{chosenBelow}
 use Rattle.ledger.specs.Net.{sumOver}
 use Rattle.ledger.specs.Ledger.{periods, category, dayType, Ledger, dayOf, isPicture, isRun, cellBy, cellAt, totalsAt}
 use Rattle.ledger.specs.Demands.{Earlier, Nearest, takenOver, CopyOf, NoShape, NearestEarlier, CarriedExact, CarriesNearest, runDatesAmong, WeekExact, YearExact, TotIsSum, OffAndPeak, flaggedOn, FlagsCounted}
-use Rattle.ledger.proofs.Lists.{sumBelow-cong, sumBelow-none, sumBelow-plus, sumBelow-one, sumBelow-ones}
+use Rattle.ledger.proofs.Lists.{sumBelow-cong, sumBelow-none, sumBelow-plus, sumBelow-one, sumBelow-ones, part-le}
 use Rattle.ledger.proofs.Columns.{latest-other-type, latest-not-run, latest-run, cell-run}
-use Rattle.ledger.proofs.Nets.{sumOver-append, sumOver-none, sumOver-one, sumOver-plus, sumOver-alike}
+use Rattle.ledger.proofs.Nets.{sumOver-none, sumOver-plus, sumOver-alike, sumOver-tabulate}
 use Rattle.ledger.proofs.NetDemands.{sum-chosen}
 
 -- ---- the nearest earlier run date
@@ -172,20 +172,9 @@ year-exact l d c =
       λ r. let some = itself l 365 d (omega arith) r in average-is _ _ _ some .1 (annual-is _ _ some),
     )
 
--- ---- sums over periods
-
-sum-periods : (n : ℕ) (f : ℕ → ℕ) → sumBelow n (λ k. f (suc k)) ≡ sumOver (tabulate n suc) f
-unfolding sumBelow tabulate
-sum-periods zero f = (unfold sumOver in refl)
-sum-periods (suc n) f = sym (sumOver-append (tabulate n suc) (suc n ∷ []) f ∙ rw (sumOver-one, ← sum-periods n f))
-
 pub tot-is-sum : TotIsSum
 unfolding totalsAt totalsOn totOn
-tot-is-sum l d c = sum-periods (periods (l .opening)) _
-
-part-le : (b : Bool) (v : ℕ) → cond b v 0 ≤ v
-part-le true v = omega arith
-part-le false v = omega arith
+tot-is-sum l d c = sym (sumOver-tabulate (periods (l .opening)) suc _)
 
 module _ (l : Ledger) (c : ℕ) where
   off-le : (d : ℕ) → totalsAt l d c .off ≤ totalsAt l d c .tot

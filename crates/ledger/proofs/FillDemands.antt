@@ -3,7 +3,7 @@ use Prim.Native.Nat.{ℕ, zero, suc, _+_, _*_, _/_, _%_, _≤_, _<_}
 use mathlib.Core.Path.{_≡_, refl, sym, ap, _∙_}
 use mathlib.Core.Logic.{_≢_, _↔_, inl, inr, ⊎-elim}
 use mathlib.Core.Bool.{Bool, true, false, not, cond, and-eq-true-iff}
-use mathlib.Core.List.{List, [], _∷_}
+use mathlib.Core.List.{List}
 use native.Mathlib.Omega.{arith}
 use native.Mathlib.Nat.{add-zero, mod-lt, div-add-mod'}
 use lib.Dec.{eqb, ltb}
@@ -25,7 +25,7 @@ use Rattle.ledger.specs.Demands.{SameKey, OptedOutShape, HasShape, Shape
 use Rattle.ledger.proofs.Verdicts.{answer-none, answer-some}
 use Rattle.ledger.proofs.Lists.{length-tabulate, getD-tabulate, sumBelow-cong, sumBelow-one, terms-lt}
 use Rattle.ledger.proofs.Chosen.{first-passes, first-low}
-use Rattle.ledger.proofs.Nets.{sumOver-append, sumOver-one}
+use Rattle.ledger.proofs.Nets.{sumOver-tabulate}
 use Rattle.ledger.proofs.Fills.{gets-before, left-over-few, filled-sum, filled-near, filled-zero}
 use Rattle.ledger.proofs.FirstFailed.{finds-none, finds-row, goes-by}
 use Rattle.ledger.proofs.CallDemands.{not-iff, date-iff, lists-iff, ran-iff, keys-differ}
@@ -166,16 +166,11 @@ fill-exact l n a =
 
 -- ---- sums of lists
 
-sum-tabulated : (n : ℕ) (f : ℕ → ℕ) → sumOver (tabulate n f) (λ v. v) ≡ sumBelow n f
-unfolding tabulate sumBelow
-sum-tabulated zero f = (unfold sumOver in refl)
-sum-tabulated (suc n) f = sumOver-append (tabulate n f) (f n ∷ []) (λ v. v) ∙ rw (sumOver-one, sum-tabulated n f)
-
 sum-listed : (xs : List ℕ) → sumOver xs (λ v. v) ≡ sumBelow (length xs) (λ k. getD xs k 0)
 sum-listed xs =
     let same : xs ≡ tabulate (length xs) (λ k. getD xs k 0) =
     ext-getD 0 xs _ (sym (length-tabulate (length xs) _)) (λ k l. sym (getD-tabulate (length xs) _ k l)) in
-    ap (λ ys. sumOver ys (λ v. v)) same ∙ sum-tabulated (length xs) _
+    ap (λ ys. sumOver ys (λ v. v)) same ∙ sumOver-tabulate (length xs) _ (λ v. v)
 
 -- where two sums are equal and a term of the first is less, another is more
 more-elsewhere : (n : ℕ) (f g : ℕ → ℕ) (k : ℕ) → k < n → sumBelow n f ≡ sumBelow n g → f k < g k → (i : ℕ) × (i < n) × (g i < f i)
@@ -310,7 +305,7 @@ module _ (P : ℕ) (marks : List ℕ) (value : ℕ → ℕ) (advance : ℕ) wher
             let i-gets : gets i ≡ true = cases (gets i) (λ q. q) (λ q. absurd (let is = rw q at (given-is i hi mi) in omega arith)) in
             let k-not : gets k ≡ false = cases (gets k) (λ q. absurd (let is = rw q at (given-is k hk mk) in omega arith)) (λ q. q) in
             rw (remainder-is i mi, remainder-is k mk) at (gets-before P (remainderOf P weight advance) (leftOver P weight advance) i k i-gets k-not);
-        adds-up = sum-tabulated P _ ∙ filled-sum P weight advance some-weight;
+        adds-up = sumOver-tabulate P _ (λ v. v) ∙ filled-sum P weight advance some-weight;
       }
     where
       some-weight : sumBelow P weight ≢ 0

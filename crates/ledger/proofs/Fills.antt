@@ -12,7 +12,7 @@ use Rattle.metering.specs.Sum.{sumBelow, sumBelow-le}
 use Rattle.ledger.specs.Fill.{comesBefore, countBefore, wholePart, remainderOf, leftOver, filledValue, filledValues}
 use Rattle.ledger.specs.Threshold.{reaching, equalTo}
 use Rattle.ledger.proofs.Choices.{neither}
-use Rattle.ledger.proofs.Lists.{tabulate-ext, sumBelow-cong, sumBelow-none, sumBelow-plus, sumBelow-more, sumBelow-ones, term-le-sum, terms-lt, sum-so-far, sum-times}
+use Rattle.ledger.proofs.Lists.{tabulate-ext, sumBelow-cong, sumBelow-none, sumBelow-plus, sumBelow-more, sumBelow-ones, sumBelow-most, part-le, term-le-sum, terms-lt, sum-so-far, sum-times}
 
 -- ---- weights that are alike give values that are alike
 
@@ -62,7 +62,7 @@ module _ (n : ℕ) (r : ℕ → ℕ) where
 
   reaching-low : (t : ℕ) → reaching n r t ≤ n
   unfolding reaching
-  reaching-low t = let most = sumBelow-le n _ _ (λ k l. counted-le (leb t (r k)) true (λ q. refl)) in let all = sumBelow-ones n in omega arith
+  reaching-low t = let most = sumBelow-most n 1 _ (λ k l. part-le (leb t (r k)) 1) in omega arith
 
   -- those above t and those equal to it
   pub reaching-next : (t : ℕ) → reaching n r t ≡ reaching n r (suc t) + equalTo n r t
@@ -139,9 +139,10 @@ module _ (n : ℕ) (r : ℕ → ℕ) where
 
   -- ---- as many get one as there are Wh left over
 
-  none-reaches : reaching n r (suc (sumBelow n r)) ≡ 0
+  -- none is above what no number is above
+  pub none-reaches : (t : ℕ) → ((k : ℕ) → k < n → r k ≤ t) → reaching n r (suc t) ≡ 0
   unfolding reaching
-  none-reaches = sumBelow-none n _ (λ k l. rw (lt-leb (suc (sumBelow n r)) (r k) (let low = term-le-sum n r k l in omega arith)))
+  none-reaches t h = sumBelow-none n _ (λ k l. rw (lt-leb (suc t) (r k) (let low = h k l in omega arith)))
 
   -- of those equal to t, the earlier ones up to `left`
   earlier-ones : (a left t m : ℕ) → a ≤ left →
@@ -160,7 +161,7 @@ module _ (n : ℕ) (r : ℕ → ℕ) where
 
   handed-out : (left : ℕ) → left ≤ n → sumBelow n (λ k. cond (ltb (countBefore n r k) left) 1 0) ≡ left
   handed-out left few =
-      let none = none-reaches in
+      let none = none-reaches (sumBelow n r) (term-le-sum n r) in
       let found = threshold-there left (sumBelow n r) few (omega arith) in
       let t = found .0 in
       let low = found .1 in

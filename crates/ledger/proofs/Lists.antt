@@ -2,7 +2,7 @@
 use Prim.Native.Nat.{ℕ, zero, suc, _+_, _-_, _*_, _/_, _≤_, _<_}
 use mathlib.Core.Path.{_≡_, refl, sym, ap, _∙_}
 use mathlib.Core.Logic.{_≢_, ⊎-elim}
-use mathlib.Core.Bool.{cond}
+use mathlib.Core.Bool.{Bool, true, false, cond}
 use mathlib.Core.List.{List, [], _∷_, _++_, append-assoc}
 use native.Mathlib.Omega.{arith}
 use native.Mathlib.Numerals.{add-one}
@@ -174,6 +174,18 @@ unfolding sumBelow
 sum-times zero f c = sym (zero-mul c)
 sum-times (suc n) f c = rw (sum-times n f c) (sym (add-mul (sumBelow n f) (f n) c))
 
+-- a sum of terms that are each at most w times another's
+pub sumBelow-times : (n w : ℕ) (f g : ℕ → ℕ) → ((k : ℕ) → k < n → f k ≤ g k * w) → sumBelow n f ≤ sumBelow n g * w
+sumBelow-times n w f g h = rw (← sum-times n g w) (sumBelow-le n f (λ k. g k * w) h)
+
+pub sumBelow-most : (n b : ℕ) (f : ℕ → ℕ) → ((k : ℕ) → k < n → f k ≤ b) → sumBelow n f ≤ n * b
+sumBelow-most n b f h = rw (sumBelow-ones n) at (sumBelow-times n b f (λ k. 1) (λ k l. let low = h k l in omega arith))
+
+-- a term that may be left out
+pub part-le : (b : Bool) (x : ℕ) → cond b x 0 ≤ x
+part-le true x = omega arith
+part-le false x = omega arith
+
 -- all but one of the terms are nothing
 pub sumBelow-one : (n c : ℕ) (f : ℕ → ℕ) → c < n → sumBelow n (λ k. cond (eqb k c) (f k) 0) ≡ f c
 unfolding sumBelow
@@ -208,11 +220,6 @@ getD-cut n xs i h = getD-take n xs i 0 h
 -- the first entries of a list of the length of the cut part, put back
 pub getD-back : (n : ℕ) (xs ys : List ℕ) (i : ℕ) → i < length ys → getD (ys ++ drop n xs) i 0 ≡ getD ys i 0
 getD-back n xs ys i h = List·getD-append ys (drop n xs) 0 i h
-
--- a place that is filled has f's value
-pub filling-at : (n : ℕ) (f : ℕ → ℕ) (xs : List ℕ) (k : ℕ) → k < n → getD (filling n f xs) k 0 ≡ f k
-unfolding filling
-filling-at n f xs k h = getD-back n xs (tabulate n f) k (rw length-tabulate h) ∙ getD-tabulate n f k h
 
 -- ---- a part of a list
 

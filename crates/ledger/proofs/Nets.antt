@@ -10,6 +10,7 @@ use lib.IntN.{ℤ, pos, negℤ, _+ℤ_, _-ℤ_, +ℤ-assoc, +ℤ-comm, negℤ-+�
 use borrow.Table.Steps.{cases}
 use Rattle.metering.specs.Sum.{sumBelow}
 use Rattle.ledger.specs.Method.{Cell, overRunDates}
+use Rattle.ledger.specs.Table.{tabulate}
 use Rattle.ledger.specs.Net.{sumOver, anyOf, signedSum, isN, netPeriod, markOf, netTot, netTot7, netOn}
 use Rattle.ledger.specs.Engine.{Every}
 use Rattle.ledger.proofs.Lists.{sumBelow-cong, sumBelow-none, sumBelow-plus, tabulate-ext}
@@ -68,6 +69,12 @@ sumOver-none (c ∷ cs) = rw (sumOver-none cs)
 pub sumOver-one : (c : ℕ) (f : ℕ → ℕ) → sumOver (c ∷ []) f ≡ f c
 unfolding sumOver
 sumOver-one c f = add-zero (f c)
+
+-- over a list that is made from a function
+pub sumOver-tabulate : (n : ℕ) (g f : ℕ → ℕ) → sumOver (tabulate n g) f ≡ sumBelow n (λ k. f (g k))
+unfolding tabulate sumBelow
+sumOver-tabulate zero g f = (unfold sumOver in refl)
+sumOver-tabulate (suc n) g f = sumOver-append (tabulate n g) (g n ∷ []) f ∙ rw (sumOver-one, sumOver-tabulate n g f)
 
 pub sumOver-plus : (cs : List ℕ) (f g : ℕ → ℕ) → sumOver cs (λ c. f c + g c) ≡ sumOver cs f + sumOver cs g
 unfolding sumOver

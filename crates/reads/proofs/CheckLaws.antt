@@ -145,24 +145,15 @@ module _ (settings cells : List ℕ) (first second date category rest n : ℕ) (
   pub range-leaves : n ≡ 0 → rest ≡ rangeThen
   range-leaves none = leaves rest (cellsUnready settings cells || listsShort (periodsOf settings) first second) (leb (datesOf settings) date) (not (totalsInRange (categoriesOf settings) category)) (sym e ∙ none)
 
-first : (short late : Bool) (rest n : ℕ) → n ≡ cond short 1 (cond late 9 0) → (n ≡ 0 → ⊥) → n ≡ cond short 1 (cond late 9 rest)
-first true late rest n e h = e
-first false true rest n e h = e
-first false false rest n e h = absurd (h e)
-
-rest : (short late : Bool) (r n : ℕ) → n ≡ cond short 1 (cond late 9 0) → n ≡ 0 → r ≡ cond short 1 (cond late 9 r)
-rest true late r n e z = absurd (omega arith)
-rest false true r n e z = absurd (omega arith)
-rest false false r n e z = refl
-
+-- the same where 1 and 9 alone were looked at
 module _ (short : Bool) (dates date : ℕ) (inRange isRun : Bool) (n : ℕ) (e : n ≡ runCheck short dates date) where
   pub first-decides : (n ≡ 0 → ⊥) → n ≡ readCheck short dates date inRange isRun
   unfolding runCheck readCheck
-  first-decides h = first short (leb dates date) _ n e h
+  first-decides h = decides n _ short (leb dates date) false e h
 
   pub rest-decides :
       (range run r : ℕ) → n ≡ 0 → range ≡ cond (not inRange) 15 0 → run ≡ cond (not isRun) 14 0 → r ≡ firstNumber range run →
       r ≡ readCheck short dates date inRange isRun
   unfolding runCheck readCheck
   rest-decides range run r z a b f =
-      rw (first-number (not inRange) 14 a b f) (rest short (leb dates date) _ n e z)
+      rw (first-number (not inRange) 14 a b f) (leaves _ short (leb dates date) false (sym e ∙ z))

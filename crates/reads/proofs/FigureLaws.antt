@@ -15,14 +15,14 @@ use Rattle.metering.specs.Average.{annual}
 use Rattle.ledger.specs.Method.{Totals, totOn, offOn, peakOn, totalsOn}
 use Rattle.ledger.specs.Store.{durationOf, periodsOf, rowLength, categoryOf}
 use Rattle.ledger.specs.Calls.{cellFor, totalsFor}
-use Rattle.ledger.proofs.Lists.{sumBelow-more, sumBelow-none, sumBelow-cong}
+use Rattle.ledger.proofs.Lists.{sumBelow-more, sumBelow-none, sumBelow-cong, part-le}
 use Rattle.store.specs.declared.column.Column.{Column}
 use Rattle.reads.specs.declared.periods.Stretch.{Stretch}
 use Rattle.store.specs.Column.{columnOf, runIn}
 use Rattle.reads.specs.declared.periods.DayFigures.{DayFigures}
 use Rattle.reads.specs.declared.dates.DatesFigures.{DatesFigures}
 use Rattle.reads.specs.Figures.{valueAfter, covers, noPeriod, OffPeak, dayFigures, DayFigured, datesFigures, DateAdded, DatesFigured}
-use Rattle.reads.proofs.SumLaws.{sum-alike, part-below, over-below, peak-over, itself-counted}
+use Rattle.reads.proofs.SumLaws.{over-below, peak-over, itself-counted}
 
 -- ---- a sum over a stretch
 
@@ -45,14 +45,14 @@ sum-of-stretch w n f within =
 
 -- the whole day
 pub sum-of-day : (n : ℕ) (f : ℕ → ℕ) → sumBelow n (λ i. f (0 + i)) ≡ sumBelow n f
-sum-of-day n f = sum-alike n (λ k. rw (zero-add k))
+sum-of-day n f = sumBelow-cong n _ _ (λ k l. rw (zero-add k))
 
 -- ---- OFF is a part of TOT
 
 off-below : (column : Column) (window : Stretch) (cells : List ℕ) (d : ℕ) → dayFigures column window cells d .off ≤ dayFigures column window cells d .tot
 off-below column window cells d =
     sumBelow-le (column .periods) (λ k. cond (covers window k) (valueAfter column cells d k) 0) (valueAfter column cells d)
-    (λ k h. part-below (covers window k) (valueAfter column cells d k))
+    (λ k h. part-le (covers window k) (valueAfter column cells d k))
 
 pub day-off-below : {column : Column} {window : Stretch} {cells : List ℕ} {d : ℕ} {r : DayFigures} → DayFigured column window cells d r → r .off ≤ r .tot
 day-off-below {column} {window} {cells} {d} f = rw (f .is) (off-below column window cells d)

@@ -9,6 +9,7 @@ use borrow.Author.Tests.{le-leb}
 use lib.Dec.{leb, eqb}
 use Rattle.metering.specs.Sum.{sumBelow, sumBelow-zero, sumBelow-suc, sumBelow-le}
 use Rattle.ledger.specs.Method.{overRunDates}
+use Rattle.ledger.proofs.Lists.{sumBelow-cong, sumBelow-none, term-le-sum}
 use Rattle.reads.specs.Sums.{Figure, Summed}
 use Rattle.reads.specs.Figures.{term}
 
@@ -26,14 +27,6 @@ ends e s = rw e at s
 
 -- ---- sums
 
-pub sum-alike : (n : ℕ) {f g : ℕ → ℕ} → ((k : ℕ) → f k ≡ g k) → sumBelow n f ≡ sumBelow n g
-sum-alike zero {f} {g} same = rw (sumBelow-zero f, sumBelow-zero g)
-sum-alike (suc n) {f} {g} same = rw (sumBelow-suc n f, sumBelow-suc n g, sum-alike n same, same n)
-
-sum-nothing : (n : ℕ) → sumBelow n (λ k. 0) ≡ 0
-sum-nothing zero = rw sumBelow-zero
-sum-nothing (suc n) = rw (sumBelow-suc, sum-nothing n)
-
 sum-minus : (n : ℕ) (f g : ℕ → ℕ) → ((k : ℕ) → g k ≤ f k) → sumBelow n (λ k. f k - g k) ≡ sumBelow n f - sumBelow n g
 sum-minus zero f g less = rw (sumBelow-zero (λ k. f k - g k), sumBelow-zero f, sumBelow-zero g)
 sum-minus (suc n) f g less =
@@ -41,15 +34,7 @@ sum-minus (suc n) f g less =
     let h = less n in
     rw (sumBelow-suc n (λ k. f k - g k), sumBelow-suc n f, sumBelow-suc n g, sum-minus n f g less) (omega arith)
 
-sum-first : (n : ℕ) (f : ℕ → ℕ) → f 0 ≤ sumBelow (suc n) f
-sum-first zero f = rw (sumBelow-suc, sumBelow-zero) (omega arith)
-sum-first (suc n) f = let h = sum-first n f in rw (sumBelow-suc (suc n)) (omega arith)
-
 -- ---- over run dates
-
-pub part-below : (b : Bool) (x : ℕ) → cond b x 0 ≤ x
-part-below true x = le-refl x
-part-below false x = omega arith
 
 cond-below : (b : Bool) (x y : ℕ) → x ≤ y → cond b x 0 ≤ cond b y 0
 cond-below true x y h = h
@@ -74,12 +59,12 @@ module _ (isRun : ℕ → Bool) (n d : ℕ) (f g : ℕ → ℕ) (less : (x : ℕ
   over-minus : overRunDates isRun n (λ x. f x - g x) d ≡ overRunDates isRun n f d - overRunDates isRun n g d
   unfolding overRunDates
   over-minus =
-      sum-alike n (λ k. cond-minus (leb k d && isRun (d - k)) (f (d - k)) (g (d - k)))
+      sumBelow-cong n _ _ (λ k l. cond-minus (leb k d && isRun (d - k)) (f (d - k)) (g (d - k)))
       ∙ sum-minus n (term isRun f d) (term isRun g d) term-below
 
   over-nothing : overRunDates isRun n (λ x. 0) d ≡ 0
   unfolding overRunDates
-  over-nothing = sum-alike n (λ k. cond-nothing (leb k d && isRun (d - k))) ∙ sum-nothing n
+  over-nothing = sumBelow-none n _ (λ k l. cond-nothing (leb k d && isRun (d - k)))
 
   peaks : (none : Bool) → cond none 0 (overRunDates isRun n f d - overRunDates isRun n g d) ≡ overRunDates isRun n (λ x. cond none 0 (f x - g x)) d
   peaks true = sym over-nothing
@@ -95,6 +80,6 @@ module _ (isRun : ℕ → Bool) (n d : ℕ) (f g : ℕ → ℕ) (less : (x : ℕ
 pub itself-counted : (isRun : ℕ → Bool) (n d : ℕ) → isRun d ≡ true → 0 < overRunDates isRun (suc n) (λ x. 1) d
 unfolding overRunDates
 itself-counted isRun n d e =
-    let h = sum-first n (term isRun (λ x. 1) d) in
+    let h = term-le-sum (suc n) (term isRun (λ x. 1) d) 0 (omega arith) in
     let one : term isRun (λ x. 1) d 0 ≡ 1 = rw (le-leb 0 d (omega arith), sub-zero, e) in
     omega arith

@@ -19,8 +19,8 @@ use Rattle.ledger.specs.Table.{tabulate, filling}
 use Rattle.ledger.specs.Calls.{countsFor, tally, familyTally, freshAt, rowAt, putRow, lastRun, inheritedFrom, carriedEntry, carryOn, movedByRow, settled, newRow, ranFrom, runUnready, runVerdict}
 use Rattle.entries.specs.Reading.{reading-bound}
 use Rattle.ledger.proofs.Walks.{row-put, carryOn-same, settled-same}
-use Rattle.ledger.proofs.Lists.{length-tabulate, getD-tabulate, sumBelow-cong}
-use Rattle.entries.proofs.RowLaws.{filling-below, sumBelow-times, differing-le}
+use Rattle.ledger.proofs.Lists.{length-tabulate, getD-tabulate, sumBelow-cong, sumBelow-times}
+use Rattle.entries.proofs.RowLaws.{filling-below, differing-le}
 use Rattle.run_date.specs.Sums.{tallyBelow, Tallied, Bounded, pooledBelow, entryFrom, rowFrom}
 use Rattle.run_date.proofs.Laws.{place-below, category-below, period-below, place-is, tally-most}
 

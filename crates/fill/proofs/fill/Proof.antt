@@ -25,9 +25,6 @@ ranged c = c .before .before
 abbrev summed : tie.After-first-number → tie.After-missing-sum
 summed c = c .before .before .before
 
-abbrev decided : tie.After-share-out-arg → tie.After-first-number
-decided c = c .before .before
-
 named : (c : tie.After-range-number) → let a = start c .args in shapeFor (now (a .settings)) (fillCall (ofCategory (a .category)) (a .date) (a .advance) (now (a .missing)) (now (a .filled))) ≡ a .category
 unfolding shapeFor shapeCategory
 named c = refl
