@@ -6,7 +6,7 @@
 #define STORE LEND(settings), LEND(meters), LEND(readings)
 static uint8_t settings[JIHOWEKA_SETTINGS_LENGTH(1, 2)];
 static uint64_t meters[JIHOWEKA_METERS_LENGTH(1)], readings[JIHOWEKA_READINGS_LENGTH(1, 2, 48)];
-static uint64_t cells[JIHOWEKA_CELLS_LENGTH(1, 2, 48)], dates[5];
+static uint64_t cells[JIHOWEKA_CELLS_LENGTH(1, 2, 48)], days[JIHOWEKA_DAYS_LENGTH(1, 2)], dates[5];
 static int64_t fields[JIHOWEKA_FIELDS];
 static void show(const char *call, uint64_t number, int results) {
     printf("%s %" PRIu64, call, number);
@@ -17,12 +17,12 @@ int main(void) {
     const uint8_t category[] = {1, 1, 1, 1, 1, 1, 0, 1}, day_types[] = {1, 1};
     const uint8_t body[] = {0, 30, 1, 0, 0, 1, 244, 1, 224, 1, 0, 0, 0, 250}; /* 500, 250 Wh */
     const uint64_t mpan = 1000000000003;
-    show("open", jihoweka_open(STORE, LEND(cells), 30, 1, LEND(category), LEND(day_types),
-                               LEND(fields)), 0);
+    show("open", jihoweka_open(STORE, LEND(cells), LEND(days), 30, 1, LEND(category),
+                               LEND(day_types), LEND(fields)), 0);
     show("register", jihoweka_register(STORE, mpan, 0, 0, 0, 7, 1, 10000, LEND(fields)), 0);
     show("receive", jihoweka_receive(STORE, 7, mpan, 0, 30, 1, LEND(body), LEND(fields)), 0);
     for (uint64_t date = 0; date < 2; date++)
-        show("run", jihoweka_run(STORE, LEND(cells), date, LEND(fields)), 1);
+        show("run", jihoweka_run(STORE, LEND(cells), LEND(days), date, LEND(fields)), 1);
     show("totals", jihoweka_read_totals(LEND(settings), LEND(cells), 1, 0, LEND(fields)), 11);
     show("cell", jihoweka_read_cell(LEND(settings), LEND(cells), 0, 1, 3, LEND(fields)), 4);
     show("band", jihoweka_search_band(LEND(settings), LEND(cells), 0, 1, 750, 750, LEND(dates),

@@ -9,7 +9,8 @@
    Neighbouring lines of one MPAN and date are a meter day. The engine says what else is wrong.
 
    STORE is the file that the store is saved to: a number that marks such files, the lengths of
-   meters, readings, cells and settings, then these parts, all in the machine's own byte order. */
+   meters, readings, cells, days and settings, then these parts, all in the machine's own byte
+   order. */
 #include "jihoweka.h"
 
 #include <inttypes.h>
@@ -37,15 +38,15 @@ static void fail(const char *path, const char *what) {
     exit(1);
 }
 
-/* ---- the store: four parts in one block, behind the header of the file that it is saved to */
+/* ---- the store: five parts in one block, behind the header of the file that it is saved to */
 
-enum { HEADER = 5 };
+enum { HEADER = 6 };
 #define MARK 0x6A69686F77656B61u
 
 struct store {
-    uint64_t *header, *meters, *readings, *cells;
+    uint64_t *header, *meters, *readings, *cells, *days;
     uint8_t *settings;
-    size_t meters_length, readings_length, cells_length, settings_length, bytes;
+    size_t meters_length, readings_length, cells_length, days_length, settings_length, bytes;
 };
 
 /* A part as calls take it, and the list for their results. */
@@ -57,17 +58,20 @@ static struct store allocate(void) {
     s.meters_length = JIHOWEKA_METERS_LENGTH(METERS);
     s.readings_length = JIHOWEKA_READINGS_LENGTH(METERS, DATES, PERIODS);
     s.cells_length = JIHOWEKA_CELLS_LENGTH(CATEGORIES, DATES, PERIODS);
+    s.days_length = JIHOWEKA_DAYS_LENGTH(CATEGORIES, DATES);
     s.settings_length = JIHOWEKA_SETTINGS_LENGTH(CATEGORIES, DATES);
-    size_t numbers = HEADER + s.meters_length + s.readings_length + s.cells_length;
+    size_t numbers =
+        HEADER + s.meters_length + s.readings_length + s.cells_length + s.days_length;
     s.bytes = numbers * sizeof(uint64_t) + s.settings_length;
     s.header = (uint64_t *)malloc(s.bytes);
     if (s.header == NULL) fail("store", "no memory");
     s.meters = s.header + HEADER;
     s.readings = s.meters + s.meters_length;
     s.cells = s.readings + s.readings_length;
-    s.settings = (uint8_t *)(s.cells + s.cells_length); /* last, since bytes need no alignment */
+    s.days = s.cells + s.cells_length;
+    s.settings = (uint8_t *)(s.days + s.days_length); /* last, since bytes need no alignment */
     const uint64_t header[HEADER] = {MARK, s.meters_length, s.readings_length, s.cells_length,
-                                     s.settings_length};
+                                     s.days_length, s.settings_length};
     memcpy(s.header, header, sizeof header);
     return s;
 }
@@ -128,8 +132,8 @@ static void print_kwh(const char *before, int64_t wh) {
 static void open_store(struct store *s) {
     int64_t fields[JIHOWEKA_FIELDS];
     uint64_t number = jihoweka_open(PART(settings), PART(meters), PART(readings), PART(cells),
-                                    DURATION, METERS, CATEGORY_RECORDS, sizeof CATEGORY_RECORDS,
-                                    DAY_TYPES, sizeof DAY_TYPES, RESULTS);
+                                    PART(days), DURATION, METERS, CATEGORY_RECORDS,
+                                    sizeof CATEGORY_RECORDS, DAY_TYPES, sizeof DAY_TYPES, RESULTS);
     printf("open: ");
     if (accepted(number, fields)) puts("accepted");
 }
@@ -181,8 +185,8 @@ static void receive_day(struct store *s, const struct day *day) {
 
 static void run_date(struct store *s, uint64_t date) {
     int64_t fields[JIHOWEKA_FIELDS];
-    uint64_t number =
-        jihoweka_run(PART(settings), PART(meters), PART(readings), PART(cells), date, RESULTS);
+    uint64_t number = jihoweka_run(PART(settings), PART(meters), PART(readings), PART(cells),
+                                   PART(days), date, RESULTS);
     printf("run %" PRIu64 ": ", date);
     if (accepted(number, fields)) printf("%" PRId64 " cells moved\n", fields[JIHOWEKA_MOVED]);
 }
@@ -269,6 +273,19 @@ static void print_fill(const struct store *s, uint64_t date, uint64_t category, 
     putchar('\n');
 }
 
+/* How much of the week and of the year up to the date is real. */
+static void print_coverage(const struct store *s, uint64_t date, uint64_t category) {
+    static const char *const NAMES[] = {"FRESH7", " BLANK7", " FRESH365", " BLANK365"};
+    int64_t fields[JIHOWEKA_FIELDS];
+    uint64_t number = jihoweka_read_coverage(PART(settings), PART(days), date, category, RESULTS);
+    printf("coverage of date %" PRIu64 ", category %" PRIu64 ": ", date, category);
+    if (!accepted(number, fields)) return;
+    for (int i = JIHOWEKA_FRESH7; i <= JIHOWEKA_BLANK365; i++)
+        printf("%s %" PRId64, NAMES[i], fields[i]);
+    if (fields[JIHOWEKA_OLDEST] == JIHOWEKA_NO_ORIGIN) puts(" oldest -");
+    else printf(" oldest %" PRId64 "\n", fields[JIHOWEKA_OLDEST]);
+}
+
 /* ---- the file of days */
 
 /* Takes a number up to `most` and the character behind it; the file's end also ends a line. */
@@ -330,6 +347,8 @@ static void shape_dates(struct store *s) {
     print_band(s, 2);
     print_fill(s, 4, 0, 17, 24, 13000); /* the second meter sent nothing from 08:00 to 12:00 */
     print_fill(s, 2, 0, 17, 24, 13000); /* at that time date 2 has no shape */
+    print_coverage(s, 4, 0);
+    print_coverage(s, 2, 1); /* not one period of date 2 has a shape there */
 }
 
 /* A meter's date 0 comes again. What was copied from it follows once date 0 is run again. */
@@ -344,6 +363,7 @@ static void correct_first_date(struct store *s) {
     print_cell(s, 1, 2, 1);
     print_net(s, 1, 0, 1);
     print_band(s, DATES);
+    print_coverage(s, 1, 0);
 }
 
 int main(int count, char **arguments) {

@@ -14,6 +14,7 @@ mod c {
             meters: *mut u64, meters_length: usize,
             readings: *mut u64, readings_length: usize,
             cells: *mut u64, cells_length: usize,
+            days: *mut u64, days_length: usize,
             duration: u64, meter_count: u64,
             category_records: *const u8, category_records_length: usize,
             day_types: *const u8, day_types_length: usize,
@@ -39,6 +40,7 @@ mod c {
             meters: *const u64, meters_length: usize,
             readings: *const u64, readings_length: usize,
             cells: *mut u64, cells_length: usize,
+            days: *mut u64, days_length: usize,
             date: u64,
             fields: *mut i64, fields_length: usize,
         ) -> u64;
@@ -75,6 +77,12 @@ mod c {
             date: u64, category: u64, advance: u32,
             missing: *const u8, missing_length: usize,
             filled: *mut u64, filled_length: usize,
+            fields: *mut i64, fields_length: usize,
+        ) -> u64;
+        pub fn jihoweka_read_coverage(
+            settings: *const u8, settings_length: usize,
+            days: *const u64, days_length: usize,
+            date: u64, category: u64,
             fields: *mut i64, fields_length: usize,
         ) -> u64;
     }
@@ -123,13 +131,22 @@ struct Net {
     marks: Vec<u8>,
 }
 
-/// The four parts, lent to each call as it asks for them. Until it is opened, and whatever else the
+struct Coverage {
+    fresh7: i64,
+    blank7: i64,
+    fresh365: i64,
+    blank365: i64,
+    oldest: Option<i64>,
+}
+
+/// The five parts, lent to each call as it asks for them. Until it is opened, and whatever else the
 /// parts hold, calls are safe.
 struct Store {
     settings: Vec<u8>,
     meters: Vec<u64>,
     readings: Vec<u64>,
     cells: Vec<u64>,
+    days: Vec<u64>,
     periods: usize,
 }
 
@@ -140,6 +157,11 @@ fn results(call: impl FnOnce(*mut i64, usize) -> u64) -> Result<[i64; FIELDS], R
         0 => Ok(fields),
         number => Err(Refusal { number, place: fields[0] }),
     }
+}
+
+/// An origin as the date that it is, if it is one.
+fn known(origin: i64) -> Option<i64> {
+    Some(origin).filter(|&origin| origin != NO_ORIGIN)
 }
 
 // What the header asks of a caller holds in every call below, for the same reasons: a pointer and
@@ -154,6 +176,7 @@ impl Store {
             meters: vec![0; 41 * meters],
             readings: vec![0; dates * meters * (1 + periods)],
             cells: vec![0; dates * categories * periods],
+            days: vec![0; 2 * categories * dates],
             periods,
         }
     }
@@ -161,13 +184,14 @@ impl Store {
     fn open(
         &mut self, duration: u64, meter_count: u64, category_records: &[u8], day_types: &[u8],
     ) -> Result<(), Refusal> {
-        // SAFETY: four vectors of self, each borrowed as mutable, and two slices only read.
+        // SAFETY: five vectors of self, each borrowed as mutable, and two slices only read.
         results(|fields, length| unsafe {
             c::jihoweka_open(
                 self.settings.as_mut_ptr(), self.settings.len(),
                 self.meters.as_mut_ptr(), self.meters.len(),
                 self.readings.as_mut_ptr(), self.readings.len(),
                 self.cells.as_mut_ptr(), self.cells.len(),
+                self.days.as_mut_ptr(), self.days.len(),
                 duration, meter_count,
                 category_records.as_ptr(), category_records.len(),
                 day_types.as_ptr(), day_types.len(),
@@ -208,13 +232,14 @@ impl Store {
 
     /// How many cells moved.
     fn run(&mut self, date: u64) -> Result<i64, Refusal> {
-        // SAFETY: cells is borrowed as mutable, the other parts are only read.
+        // SAFETY: cells and days are borrowed as mutable, the other parts are only read.
         results(|fields, length| unsafe {
             c::jihoweka_run(
                 self.settings.as_ptr(), self.settings.len(),
                 self.meters.as_ptr(), self.meters.len(),
                 self.readings.as_ptr(), self.readings.len(),
                 self.cells.as_mut_ptr(), self.cells.len(),
+                self.days.as_mut_ptr(), self.days.len(),
                 date,
                 fields, length,
             )
@@ -249,7 +274,7 @@ impl Store {
             flag: char::from(fields[0] as u8),
             value: fields[1],
             count: fields[2],
-            origin: Some(fields[3]).filter(|&origin| origin != NO_ORIGIN),
+            origin: known(fields[3]),
         })
     }
 
@@ -305,18 +330,39 @@ impl Store {
         .map(|_| filled)
     }
 
+    fn coverage(&self, date: u64, category: u64) -> Result<Coverage, Refusal> {
+        // SAFETY: both parts are only read; fields is our own.
+        results(|fields, length| unsafe {
+            c::jihoweka_read_coverage(
+                self.settings.as_ptr(), self.settings.len(),
+                self.days.as_ptr(), self.days.len(),
+                date, category,
+                fields, length,
+            )
+        })
+        .map(|fields| Coverage {
+            fresh7: fields[0],
+            blank7: fields[1],
+            fresh365: fields[2],
+            blank365: fields[3],
+            oldest: known(fields[4]),
+        })
+    }
+
     // The saved file, as in head_end.c.
 
     fn header(&self) -> Vec<u8> {
-        let parts = [self.meters.len(), self.readings.len(), self.cells.len(), self.settings.len()];
+        let numbers = [&self.meters, &self.readings, &self.cells, &self.days].map(Vec::len);
         let mut header = 0x6A69686F77656B61_u64.to_ne_bytes().to_vec();
-        header.extend(parts.iter().flat_map(|&length| (length as u64).to_ne_bytes()));
+        for length in numbers.into_iter().chain([self.settings.len()]) {
+            header.extend((length as u64).to_ne_bytes());
+        }
         header
     }
 
     fn save(&self, path: &str) -> Result<usize, String> {
         let mut bytes = self.header();
-        for part in [&self.meters, &self.readings, &self.cells] {
+        for part in [&self.meters, &self.readings, &self.cells, &self.days] {
             bytes.extend(part.iter().flat_map(|entry| entry.to_ne_bytes()));
         }
         bytes.extend(&self.settings);
@@ -327,14 +373,15 @@ impl Store {
     /// The lengths must be those of this store. Calls keep to them whatever the parts hold.
     fn load(&mut self, path: &str) -> Result<usize, String> {
         let bytes = std::fs::read(path).map_err(|_| format!("{path}: cannot be read"))?;
-        let numbers = self.meters.len() + self.readings.len() + self.cells.len();
+        let numbers =
+            self.meters.len() + self.readings.len() + self.cells.len() + self.days.len();
         let header = self.header();
         let length = header.len() + 8 * numbers + self.settings.len();
         if bytes.len() != length || !bytes.starts_with(&header) {
             return Err(format!("{path}: is no store of this size"));
         }
         let (entries, settings) = bytes[header.len()..].split_at(8 * numbers);
-        let parts = [&mut self.meters, &mut self.readings, &mut self.cells];
+        let parts = [&mut self.meters, &mut self.readings, &mut self.cells, &mut self.days];
         for (entry, saved) in parts.into_iter().flatten().zip(entries.chunks_exact(8)) {
             *entry = u64::from_ne_bytes(saved.try_into().expect("eight bytes"));
         }
@@ -485,9 +532,12 @@ fn print_totals(store: &Store, date: u64, category: u64) {
 fn print_cell(store: &Store, date: u64, category: u64, period: u64) {
     let asked = format!("cell of date {date}, category {category}, period {period}");
     say(asked, store.cell(date, category, period), |cell| {
-        let origin = cell.origin.map_or("-".to_string(), |origin| origin.to_string());
-        format!("{} {} {} {origin}", cell.flag, Kwh(cell.value), cell.count)
+        format!("{} {} {} {}", cell.flag, Kwh(cell.value), cell.count, date_or_dash(cell.origin))
     });
+}
+
+fn date_or_dash(date: Option<i64>) -> String {
+    date.map_or("-".to_string(), |date| date.to_string())
 }
 
 /// Eight periods to a line; a star says that a shape in the number is missing.
@@ -525,6 +575,19 @@ fn print_fill(store: &Store, date: u64, category: u64, first: usize, last: usize
         let kwh = |wh| Kwh(wh as i64).to_string();
         let shown: Vec<String> = filled[first - 1..last].iter().map(|&wh| kwh(wh)).collect();
         format!("{} sum {}", shown.join(" "), kwh(filled.iter().sum::<u64>()))
+    });
+}
+
+/// How much of the week and of the year up to the date is real.
+fn print_coverage(store: &Store, date: u64, category: u64) {
+    let asked = format!("coverage of date {date}, category {category}");
+    say(asked, store.coverage(date, category), |coverage| {
+        let Coverage { fresh7, blank7, fresh365, blank365, oldest } = coverage;
+        let oldest = date_or_dash(oldest);
+        format!(
+            "FRESH7 {fresh7} BLANK7 {blank7} FRESH365 {fresh365} BLANK365 {blank365} \
+             oldest {oldest}"
+        )
     });
 }
 
@@ -585,6 +648,8 @@ fn shape_dates(store: &mut Store) {
     print_band(store, 2);
     print_fill(store, 4, 0, 17, 24, 13000); // the second meter sent nothing from 08:00 to 12:00
     print_fill(store, 2, 0, 17, 24, 13000); // at that time date 2 has no shape
+    print_coverage(store, 4, 0);
+    print_coverage(store, 2, 1); // not one period of date 2 has a shape there
 }
 
 /// A meter's date 0 comes again. What was copied from it follows once date 0 is run again.
@@ -599,6 +664,7 @@ fn correct_first_date(store: &mut Store) {
     print_cell(store, 1, 2, 1);
     print_net(store, 1, 0, true);
     print_band(store, DAY_TYPES.len());
+    print_coverage(store, 1, 0);
 }
 
 fn head_end(days: &str, saved: &str) -> Result<(), String> {

@@ -3,12 +3,13 @@
    Link libjihoweka.a or libjihoweka.so (x86-64 Linux). It needs memcpy and memset of the C library
    and nothing else: it allocates nothing, keeps nothing between calls and writes to no file.
 
-   A store is four parts, arrays that the caller owns and lends to each call:
+   A store is five parts, arrays that the caller owns and lends to each call:
 
      settings   uint8_t    what the opening was given
      meters     uint64_t   registrations
      readings   uint64_t   the sets held
      cells      uint64_t   the shapes
+     days       uint64_t   the coverage of each date
 
    Their least lengths are the macros below. Parts may be longer: what stands past the least length
    is neither read nor written. jihoweka_open makes a new, empty store and overwrites what the parts
@@ -95,7 +96,8 @@ enum {
     JIHOWEKA_FIELDS = 11,             /* entries that `fields` has at least */
     JIHOWEKA_CATEGORY_BYTES = 8,      /* of a category record */
     JIHOWEKA_RECORD_BYTES = 7,        /* of a record of a body */
-    JIHOWEKA_NO_ORIGIN = 65535        /* the origin of a cell with flag N */
+    JIHOWEKA_NO_ORIGIN = 65535        /* the origin of a cell with flag N, and the oldest one of a
+                                         date that has no other cells */
 };
 
 /* ---- where results stand in `fields` */
@@ -109,6 +111,9 @@ enum {
 enum { JIHOWEKA_FLAG, JIHOWEKA_VALUE, JIHOWEKA_COUNT, JIHOWEKA_ORIGIN };
 enum { JIHOWEKA_NET_TOT, JIHOWEKA_NET_TOT7 };
 enum { JIHOWEKA_WRITTEN, JIHOWEKA_FOUND };
+enum {
+    JIHOWEKA_FRESH7, JIHOWEKA_BLANK7, JIHOWEKA_FRESH365, JIHOWEKA_BLANK365, JIHOWEKA_OLDEST
+};
 
 /* ---- least lengths of the parts in entries, for sizes that an opening accepts */
 
@@ -119,13 +124,14 @@ enum { JIHOWEKA_WRITTEN, JIHOWEKA_FOUND };
     ((size_t)(dates) * (size_t)(meters) * (1 + (size_t)(periods)))
 #define JIHOWEKA_CELLS_LENGTH(categories, dates, periods) \
     ((size_t)(dates) * (size_t)(categories) * (size_t)(periods))
+#define JIHOWEKA_DAYS_LENGTH(categories, dates) (2 * (size_t)(categories) * (size_t)(dates))
 
 /* ---- calls
 
    Dates and categories count from 0, periods from 1 to P = 1440 / duration; period j ends at minute
    j x duration, the last one at 1440. Mind the order of the numbers: it is each call's own. */
 
-/* Makes a new store of the parts: all four are written.
+/* Makes a new store of the parts: all five are written.
      duration          minutes of a period, 15 or 30
      meter_count       the most meters that it will know, 1 to 1024
      category_records  1 to 64 of 8 bytes each (the length is in bytes): segment (1 Smart, 2
@@ -144,6 +150,7 @@ uint64_t jihoweka_open(
     uint64_t *meters, size_t meters_length,
     uint64_t *readings, size_t readings_length,
     uint64_t *cells, size_t cells_length,
+    uint64_t *days, size_t days_length,
     uint64_t duration,
     uint64_t meter_count,
     const uint8_t *category_records, size_t category_records_length,
@@ -193,7 +200,8 @@ uint64_t jihoweka_receive(
 
 /* Makes a date's cells from the sets held; a cell with too few readings takes over that of the
    nearest earlier run date of the same day type. Later run dates of the day type follow, wherever
-   they have no shape of their own. Writes cells.
+   they have no shape of their own; the coverage of this and later dates follows. Writes cells and
+   days.
    Results: moved, how many cells of all dates differ from before; a date not run has cells N.
    Checks: 1, 9. */
 uint64_t jihoweka_run(
@@ -201,6 +209,7 @@ uint64_t jihoweka_run(
     const uint64_t *meters, size_t meters_length,
     const uint64_t *readings, size_t readings_length,
     uint64_t *cells, size_t cells_length,
+    uint64_t *days, size_t days_length,
     uint64_t date,
     int64_t *fields, size_t fields_length);
 
@@ -296,6 +305,18 @@ uint64_t jihoweka_fill_opted_out(
     uint32_t advance,
     const uint8_t *missing, size_t missing_length,
     uint64_t *filled, size_t filled_length,
+    int64_t *fields, size_t fields_length);
+
+/* How much of a category's week and year up to a run date is real.
+   Results: FRESH7, how many cells have flag 'A' or 'D', and BLANK7, how many have 'N', over the run
+   dates among this and the 6 before; FRESH365 and BLANK365, the same over those among this and the
+   364 before; oldest, the smallest origin among the date's cells that do not have 'N', copies
+   included (JIHOWEKA_NO_ORIGIN if all have it). Checks: 1, 9, 15, 14. */
+uint64_t jihoweka_read_coverage(
+    const uint8_t *settings, size_t settings_length,
+    const uint64_t *days, size_t days_length,
+    uint64_t date,
+    uint64_t category,
     int64_t *fields, size_t fields_length);
 
 #ifdef __cplusplus

@@ -36,14 +36,15 @@ enum {
 
 static struct {
     uint8_t *settings;
-    uint64_t *meters, *readings, *cells;
-    size_t settings_length, meters_length, readings_length, cells_length;
+    uint64_t *meters, *readings, *cells, *days;
+    size_t settings_length, meters_length, readings_length, cells_length, days_length;
 } store;
 
 static int64_t fields[JIHOWEKA_FIELDS];
 
 #define LENT(part) store.part, store.part##_length
 #define METER_PARTS LENT(settings), LENT(meters), LENT(readings)
+#define ALL_PARTS METER_PARTS, LENT(cells), LENT(days)
 #define READ_PARTS LENT(settings), LENT(cells)
 #define FIELDS fields, JIHOWEKA_FIELDS
 
@@ -129,10 +130,12 @@ static void make_parts(void) {
     store.meters_length = JIHOWEKA_METERS_LENGTH(METERS);
     store.readings_length = JIHOWEKA_READINGS_LENGTH(METERS, DATES, PERIODS);
     store.cells_length = JIHOWEKA_CELLS_LENGTH(CATEGORIES, DATES, PERIODS);
+    store.days_length = JIHOWEKA_DAYS_LENGTH(CATEGORIES, DATES);
     store.settings = part_of(store.settings_length);
     store.meters = part_of(8 * store.meters_length);
     store.readings = part_of(8 * store.readings_length);
     store.cells = part_of(8 * store.cells_length);
+    store.days = part_of(8 * store.days_length);
 }
 
 /* ---- the calls, each with its check */
@@ -149,8 +152,8 @@ static inline void must_accept(const char *call, uint64_t number) {
 
 static void open_store(void) {
     must_accept("number of an opening", jihoweka_open(
-        METER_PARTS, LENT(cells), DURATION, METERS, *category_records, sizeof category_records,
-        day_types, DATES, FIELDS));
+        ALL_PARTS, DURATION, METERS, *category_records, sizeof category_records, day_types, DATES,
+        FIELDS));
 }
 
 static void register_meter(size_t meter, uint64_t date) {
@@ -158,14 +161,14 @@ static void register_meter(size_t meter, uint64_t date) {
         METER_PARTS, mpans[meter], date, 0, meter % CATEGORIES, SENDER, ENERGISED, LIMIT, FIELDS));
 }
 
-static void receive(size_t meter, uint64_t date, const uint8_t *body) {
+static void receive(size_t meter, uint64_t date, const uint8_t *body, size_t bytes) {
     uint64_t quantity = category_records[meter % CATEGORIES][3];
     must_accept("number of a reception", jihoweka_receive(
-        METER_PARTS, SENDER, mpans[meter], date, DURATION, quantity, body, BODY_BYTES, FIELDS));
+        METER_PARTS, SENDER, mpans[meter], date, DURATION, quantity, body, bytes, FIELDS));
 }
 
 static int64_t run(uint64_t date) {
-    must_accept("number of a run", jihoweka_run(METER_PARTS, LENT(cells), date, FIELDS));
+    must_accept("number of a run", jihoweka_run(ALL_PARTS, date, FIELDS));
     return fields[JIHOWEKA_MOVED];
 }
 
@@ -216,6 +219,13 @@ static void fill_opted_out(uint64_t date) {
         filled, PERIODS, FIELDS));
 }
 
+static void read_coverage(uint64_t date, uint64_t category, int64_t fresh, int64_t blank) {
+    must_accept("number of a coverage read", jihoweka_read_coverage(
+        LENT(settings), LENT(days), date, category, FIELDS));
+    must_be("FRESH365 of a coverage read", fields[JIHOWEKA_FRESH365], fresh);
+    must_be("BLANK365 of a coverage read", fields[JIHOWEKA_BLANK365], blank);
+}
+
 /* ---- the copies, to and from places that docs/STORE.md gives; by pointers that the compiler does
    not see through, so that all are made */
 
@@ -229,6 +239,11 @@ static uint64_t *set_at(size_t date, size_t meter) {
 
 static uint64_t *column_at(size_t date, size_t category) {
     return store.cells + date * ROW + category * PERIODS;
+}
+
+/* A category has an entry for each date, and then one for each date's sums. */
+static uint64_t *day_at(size_t date, size_t category) {
+    return store.days + 2 * DATES * category + date;
 }
 
 static void copy_out(const void *place, size_t bytes) { copy_bytes(landing, place, bytes); }
@@ -247,9 +262,22 @@ static void copy_sets_out(size_t date) {
     for (size_t k = 0; k < METERS; k++) copy_out(set_at(date, k), SET_BYTES);
 }
 
+/* The day of each category. */
+static void copy_days(size_t date) {
+    for (size_t c = 0; c < CATEGORIES; c++) copy_out_and_back(day_at(date, c), 8);
+}
+
+/* The sums that the counts of a date are in, for each category: up to a year's from it on. */
+static void copy_sums(size_t date) {
+    size_t dates = DATES - date < YEAR ? DATES - date : YEAR;
+    for (size_t c = 0; c < CATEGORIES; c++) copy_out_and_back(day_at(date, c) + DATES, 8 * dates);
+}
+
+/* A run that changes no count, and so no sums. */
 static void copy_run(size_t date) {
     copy_sets_out(date);
     copy_out_and_back(column_at(date, 0), ROW_BYTES);
+    copy_days(date);
 }
 
 /* A category's cells of a date and of those before it. */
@@ -267,6 +295,7 @@ static void open_copy(size_t i) {
     fill_bytes(store.meters, 0, 8 * store.meters_length);
     fill_bytes(store.readings, 0, 8 * store.readings_length);
     fill_bytes(store.cells, 0, 8 * store.cells_length);
+    fill_bytes(store.days, 0, 8 * store.days_length);
 }
 
 static void new_meter(size_t i) { register_meter(i, 0); }
@@ -287,8 +316,11 @@ static void known_meter_copy(size_t i) {
 }
 
 static void receive_date(size_t date, int half) {
-    for (size_t k = 0; k < METERS; k++) receive(k, date, bodies[half][k]);
+    for (size_t k = 0; k < METERS; k++) receive(k, date, bodies[half][k], BODY_BYTES);
     half_held[date] = half;
+}
+static void receive_none(size_t date) {
+    for (size_t k = 0; k < METERS; k++) receive(k, date, NULL, 0);
 }
 static void fill_store(void) {
     open_and_register();
@@ -296,22 +328,29 @@ static void fill_store(void) {
     memcpy(sets, store.readings, sizeof sets);
 }
 static void receive_in_order(size_t i) {
-    receive(i % METERS, picks[i / METERS].date, bodies[0][i % METERS]);
+    receive(i % METERS, picks[i / METERS].date, bodies[0][i % METERS], BODY_BYTES);
 }
 static void receive_in_order_copy(size_t i) {
     copy_set_in(picks[i / METERS].date, i % METERS, i % METERS);
 }
 
 static void receive_any(size_t i) {
-    receive(picks[i].meter, picks[i].date, bodies[0][picks[i].body]);
+    receive(picks[i].meter, picks[i].date, bodies[0][picks[i].body], BODY_BYTES);
 }
 static void receive_any_copy(size_t i) {
     copy_set_in(picks[i].date, picks[i].meter, picks[i].body);
 }
 
-/* The cells as an opening leaves them: no date is run. */
-static void empty_cells(void) { memset(store.cells, 0, 8 * store.cells_length); }
+/* Cells and days as an opening leaves them: no date is run. */
+static void empty_dates(void) {
+    memset(store.cells, 0, 8 * store.cells_length);
+    memset(store.days, 0, 8 * store.days_length);
+}
 static void run_first(size_t i) { must_be("cells moved by a first run", run(i), ROW); }
+static void run_first_copy(size_t i) {
+    copy_run(i);
+    copy_sums(i);
+}
 
 /* Dates far apart, no two alike since 307 and DATES have no common divisor. */
 static size_t first_anew;
@@ -323,10 +362,27 @@ static void receive_anew(void) {
 static void run_anew(size_t i) { must_be("cells moved by new sets", run(date_anew(i)), ROW); }
 static void run_anew_copy(size_t i) { copy_run(date_anew(i)); }
 
+/* Late sets for dates that copy the one a week before, which has its readings. FRESH of the date
+   changes, and with it the sums of the 365 dates from it on. */
+static size_t date_late(size_t i) { return WEEK + 9 * i; }
+static void receive_late(void) {
+    for (size_t i = 0; i < DATES_ANEW; i++) {
+        receive_none(date_late(i));
+        must_be("cells moved by empty sets", run(date_late(i)), ROW);
+        receive_date(date_late(i), 0);
+    }
+}
+static void run_late(size_t i) { must_be("cells moved by late sets", run(date_late(i)), ROW); }
+static void run_late_copy(size_t i) {
+    copy_run(date_late(i));
+    copy_sums(date_late(i));
+}
+
 static void run_idle(size_t i) { must_be("cells moved by nothing", run(picks[i].date), 0); }
 static void run_idle_copy(size_t i) {
     copy_sets_out(picks[i].date);
     copy_out(column_at(picks[i].date, 0), ROW_BYTES);
+    for (size_t c = 0; c < CATEGORIES; c++) copy_out(day_at(picks[i].date, c), 8);
 }
 
 static void totals(size_t i) { read_totals(picks[i].date, picks[i].category); }
@@ -335,6 +391,16 @@ static void totals_copy(size_t i) { copy_columns(picks[i].date, YEAR, picks[i].c
 static void cell(size_t i) { read_cell(picks[i].date, picks[i].category, picks[i].period); }
 static void cell_copy(size_t i) {
     copy_out(column_at(picks[i].date, picks[i].category) + picks[i].period - 1, 8);
+}
+
+/* Every cell has readings of its own date. */
+static void coverage(size_t i) {
+    read_coverage(picks[i].date, picks[i].category, YEAR * PERIODS, 0);
+    must_be("oldest of a coverage read", fields[JIHOWEKA_OLDEST], picks[i].date);
+}
+static void coverage_copy(size_t i) {
+    copy_out(day_at(picks[i].date, picks[i].category), 8);
+    copy_out(day_at(picks[i].date, picks[i].category) + DATES, 8);
 }
 
 /* The imports that are netted are categories 0 to 13, their exports 14 to 27. */
@@ -381,7 +447,22 @@ static void run_worst(size_t i) {
 }
 static void run_worst_copy(size_t i) {
     copy_sets_out(i);
-    for (size_t d = 0; d < DATES; d++) copy_out_and_back(column_at(d, 0), ROW_BYTES);
+    for (size_t d = 0; d < DATES; d++) {
+        copy_out_and_back(column_at(d, 0), ROW_BYTES);
+        copy_days(d);
+    }
+}
+
+/* All dates blank, since the first has sets without readings; then it has readings again. */
+static void blank_dates(void) {
+    receive_none(0);
+    run_worst(0);
+    read_coverage(DATES - 1, 0, 0, YEAR * PERIODS);
+    receive_first();
+}
+static void run_from_blank_copy(size_t i) {
+    run_worst_copy(i);
+    for (size_t c = 0; c < CATEGORIES; c++) copy_out_and_back(day_at(0, c) + DATES, 8 * DATES);
 }
 
 static void band_of_all(size_t i) { search_band(picks[i].category, 1, 0, UINT64_MAX, DATES); }
@@ -450,7 +531,7 @@ struct row {
 #define A_DATE "795 KB of readings, 49 KB of cells"
 
 static const struct row rows[] = {
-    {"opening", "675 MB written (memset)", 1, 0, NULL, NULL, open_once, open_copy},
+    {"opening", "676 MB written (memset)", 1, 0, NULL, NULL, open_once, open_copy},
     {"registration, new meter", "4 KB of MPANs (mean), 48 B and back", METERS, 0,
      NULL, open_store, new_meter, new_meter_copy},
     {"registration, known meter", "the same, and 799 × 8 B of readings", METERS, 0,
@@ -459,14 +540,18 @@ static const struct row rows[] = {
      fill_store, NULL, receive_in_order, receive_in_order_copy},
     {"reception of 96 records, meter and date at random", "776 B into readings", 20000, 0,
      NULL, NULL, receive_any, receive_any_copy},
-    {"run, first of a date, 1,024 sets", A_DATE " and back", DATES, 0,
-     NULL, empty_cells, run_first, copy_run},
-    {"run, 1,024 new sets", A_DATE " and back", DATES_ANEW, 0,
+    {"run, first of a date, 1,024 sets", A_DATE " and 145 KB of days (mean) and back", DATES, 0,
+     NULL, empty_dates, run_first, run_first_copy},
+    {"run, 1,024 new sets", A_DATE " and 512 B of days and back", DATES_ANEW, 0,
      NULL, receive_anew, run_anew, run_anew_copy},
-    {"run, nothing changed", A_DATE, 200, 0, NULL, NULL, run_idle, run_idle_copy},
+    {"run, 1,024 late sets for a date of copies", A_DATE " and 187 KB of days and back", DATES_ANEW,
+     0, NULL, receive_late, run_late, run_late_copy},
+    {"run, nothing changed", A_DATE ", 512 B of days", 200, 0,
+     NULL, NULL, run_idle, run_idle_copy},
     {"totals read over 365 dates", "365 × 768 B of cells", 400, YEAR - 1,
      NULL, NULL, totals, totals_copy},
     {"cell read", "8 B of cells", PICKS, 0, NULL, NULL, cell, cell_copy},
+    {"coverage read", "2 × 8 B of days", PICKS, YEAR - 1, NULL, NULL, coverage, coverage_copy},
     {"net read, own group", "7 × 2 × 768 B of cells", 10000, WEEK - 1,
      NULL, NULL, net_own, net_own_copy},
     {"net read, all groups, 14 and 14", "7 × 21.5 KB of cells", 2000, WEEK - 1,
@@ -474,8 +559,11 @@ static const struct row rows[] = {
     {"a day's duty: 7,200 receptions, 96 runs, 64 totals after each", "as for each of these calls",
      1, DATES - DUTY_DATES, NULL, NULL, duty, duty_copy},
     {"the worst run: the first of 800 dates, 4,915,200 cells move",
-     "795 KB of readings, 39 MB of cells and back", 1, 0,
+     "795 KB of readings, 39 MB of cells and 410 KB of days and back", 1, 0,
      one_day_type, receive_first, run_worst, run_worst_copy},
+    {"the same where all 800 dates were blank",
+     "795 KB of readings, 39 MB of cells and 819 KB of days and back", 1, 0,
+     NULL, blank_dates, run_worst, run_from_blank_copy},
     {"band search, all 800 dates are in the band", "800 × 768 B of cells", 40, 0,
      NULL, NULL, band_of_all, band_copy},
     {"band search, none of 800 dates is", "800 × 768 B of cells", 40, 0,
@@ -549,12 +637,14 @@ static void time_row(const struct row *row, size_t rounds) {
 static void print_sizes(size_t rounds) {
     size_t settings = store.settings_length, meters = 8 * store.meters_length;
     size_t readings = 8 * store.readings_length, cells = 8 * store.cells_length;
+    size_t days = 8 * store.days_length;
     struct rusage usage;
     getrusage(RUSAGE_SELF, &usage);
     printf("\n%d meters, %d categories, %d dates, %d periods; %zu rounds; parts in bytes: settings "
-           "%zu, meters %zu, readings %zu, cells %zu, all %zu; peak resident memory %ld KiB.\n",
-           METERS, CATEGORIES, DATES, PERIODS, rounds, settings, meters, readings, cells,
-           settings + meters + readings + cells, usage.ru_maxrss);
+           "%zu, meters %zu, readings %zu, cells %zu, days %zu, all %zu; peak resident memory "
+           "%ld KiB.\n",
+           METERS, CATEGORIES, DATES, PERIODS, rounds, settings, meters, readings, cells, days,
+           settings + meters + readings + cells + days, usage.ru_maxrss);
 }
 
 int main(int count, char **words) {

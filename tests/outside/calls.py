@@ -27,9 +27,10 @@ from streams import TOP, category_bytes, valid_mpan
 SECONDS = 60                               # after which a list of calls does not end
 ENOUGH = 20_000                            # calls that reach every number
 LONGEST = 100_000                          # entries of an array; a longer one is not lent here
-# How often each call is made once the first meters are registered.
-TURNS = {'opening': 1, 'registration': 10, 'reception': 26, 'run': 15, 'totals': 12, 'cell': 12,
-         'net': 12, 'band': 12, 'fill': 12, 'fill_opted_out': 12}
+# How often each call is made once the first meters are registered. Dates are mostly run again, and
+# coverage is read in between.
+TURNS = {'opening': 1, 'registration': 10, 'reception': 26, 'run': 26, 'totals': 12, 'cell': 12,
+         'net': 12, 'band': 12, 'fill': 12, 'fill_opted_out': 12, 'coverage': 26}
 
 
 class Caller:
@@ -48,7 +49,7 @@ class Caller:
         firsts = [1, 10 ** 12 - 1, *(self.rng.randrange(2, 10 ** 12) for _ in range(3))]
         self.mpans = [valid_mpan(first) for first in firsts[:ledger.meters + 1]]
         self.dates = range(ledger.dates)
-        if ledger.dates > 10:              # the ledger is quick where few are run
+        if ledger.dates > 16:              # the ledger is quick where few are run
             self.dates = [0, 6, 7, 364, 365, 370, ledger.dates - 4, ledger.dates - 1]
         seven = 7 * ledger.periods // 24   # the last period of the first window
         self.periods = [1, 2, seven, seven + 1, ledger.periods]
@@ -156,9 +157,9 @@ class Caller:
         parts = {part: self.strange(min(length + rng.randint(0, 1), LONGEST))
                  for part, length in sizes.least().items()}
         settings = rng.randbytes(sizes.least()['settings'])
-        if self.chance(0.5):               # with the category records of an opening
+        if self.chance(0.5):               # with the category records and day types of an opening
             records = b''.join(map(category_bytes, self.aims.categories))
-            settings = settings[:8] + records + settings[8 + len(records):]
+            settings = settings[:8] + records + bytes(self.aims.day_types)
         if self.chance(0.9):
             settings = struct.pack(HEADER, *sizes) + settings[8:]
         self.store.replace({**parts, 'settings': settings})
@@ -215,11 +216,11 @@ class Caller:
         rng = self.rng
         dates, meters = rng.randint(1, 5), rng.choice((1, 2, 3, 4, 4))
         count = rng.choice((1, 2, 2, 3, 4))             # of categories
-        if self.chance(0.12):
-            dates, count = rng.randint(9, 10), rng.randint(1, 2)
-        elif self.chance(0.02):
+        if self.chance(0.3):               # more than a week
+            dates, count = rng.randint(9, 16), rng.randint(1, 3)
+        elif self.chance(0.08):
             dates, count, meters = rng.choice((
-                (800, 1, 1), (375, 2, 1), (1, 64, 2), (1, 1, 1024), (800, 64, 1024)))
+                (800, 1, 1), (375, 2, 2), (375, 1, 2), (1, 64, 2), (1, 1, 1024), (800, 64, 1024)))
         categories, home = {}, (rng.randint(1, 2), rng.randint(1, 4))
         while len(categories) < count:     # mostly of two families, import and export
             domestic, connection = home
@@ -316,7 +317,7 @@ class Caller:
 
     def date_to_read(self):
         """Mostly one that was run, else one that was not."""
-        run = self.chance(0.85)
+        run = self.chance(0.75)
         fit = [date for date in self.dates if (date in self.aims.pictures) == run]
         return self.rng.choice(fit or self.dates)
 
@@ -349,7 +350,7 @@ class Caller:
         day_type = rng.choice(aims.day_types) if self.chance(0.9) else rng.randint(0, 17)
         return [category, day_type, least, most]
 
-    def shape_to_fill(self):
+    def shape_to_read(self):
         """Date and category, mostly with a value that is not 0."""
         shaped = [[date, number] for date, rows in self.aims.cells.items()
                   for number, row in enumerate(rows) if any(cell.value for cell in row)]
@@ -369,18 +370,21 @@ class Caller:
         return [min(advance, TOP), bytes(marks)]
 
     def fill(self):
-        date, category = self.shape_to_fill()
+        date, category = self.shape_to_read()
         return [date, category, *self.hole(date, category)]
 
     def fill_opted_out(self):
         """By those three of a category, Smart domestic or not, sometimes with one replaced."""
-        rng, (date, category) = self.rng, self.shape_to_fill()
+        rng, (date, category) = self.rng, self.shape_to_read()
         _, group, _, quantity, connection, *_ = self.aims.categories[category]
         three = [group, quantity, connection]
         if self.chance(0.3):
             at = rng.choice((0, 0, 1, 2))
             three[at] = rng.choice((0, 1, 2, 15, 2 ** 16, three[at] + 2 ** 8, three[at] + 2 ** 32))
         return [date, *three, *self.hole(date, category)]
+
+    def coverage(self):
+        return self.shape_to_read()
 
 
 def replay_lists(options, note):

@@ -50,6 +50,10 @@ def kwh(wh):
     return f'{"-" if wh < 0 else ""}{abs(wh) // 1000}.{abs(wh) % 1000:03d}'
 
 
+def date_or_dash(origin):
+    return '-' if origin == 65535 else origin
+
+
 def line(asked, answer, words):
     """What was asked, then the results put into words, or the refusal."""
     if answer[0] == 'ok':
@@ -89,6 +93,8 @@ class Example:
         yield self.band(2)
         yield self.fill(4, 0, 17, 24, 13000)
         yield self.fill(2, 0, 17, 24, 13000)  # no shape there
+        yield self.coverage(4, 0)
+        yield self.coverage(2, 1)
         yield f'save: {saved_size()} bytes'
         yield f'load: {saved_size()} bytes'
         # A late day for date 0: copies stand until it is run again, then they follow.
@@ -100,6 +106,7 @@ class Example:
         yield self.cell(1, 2, 1)
         yield self.net(1, 0, True)
         yield self.band(6)
+        yield self.coverage(1, 0)
 
     def register(self, mpan, category):
         answer = self.ledger.registration(mpan, 0, 0, category, SENDER, 1, LIMIT)
@@ -137,7 +144,7 @@ class Example:
 
     def cell(self, date, category, period):
         def words(flag, value, count, origin):
-            return f'{flag} {kwh(value)} {count} {"-" if origin == 65535 else origin}'
+            return f'{flag} {kwh(value)} {count} {date_or_dash(origin)}'
         return line(f'cell of date {date}, category {category}, period {period}',
                     self.ledger.cell(date, category, period), words)
 
@@ -166,6 +173,13 @@ class Example:
                     f'advance {kwh(advance)}',
                     self.ledger.fill(date, category, advance, missing, PERIODS), words)
 
+    def coverage(self, date, category):
+        def words(fresh7, blank7, fresh365, blank365, oldest):
+            return (f'FRESH7 {fresh7} BLANK7 {blank7} FRESH365 {fresh365} BLANK365 {blank365} '
+                    f'oldest {date_or_dash(oldest)}')
+        return line(f'coverage of date {date}, category {category}',
+                    self.ledger.coverage(date, category), words)
+
 
 def first_calls():
     """The lines of first_calls: each call with its number and results, or the place."""
@@ -184,11 +198,12 @@ def first_calls():
 
 
 def saved_size():
-    """A header of five numbers, then the parts by docs/STORE.md."""
+    """A header of six numbers, then the parts by docs/STORE.md."""
     meters, categories, dates = len(METERS), len(CATEGORIES), len(DAY_TYPES)
     settings = 8 + 8 * categories + dates
-    numbers = 41 * meters + dates * meters * (1 + PERIODS) + dates * categories * PERIODS
-    return 8 * (5 + numbers) + settings
+    numbers = (41 * meters + dates * meters * (1 + PERIODS) + dates * categories * PERIODS
+               + 2 * categories * dates)
+    return 8 * (6 + numbers) + settings
 
 
 def refused_days():

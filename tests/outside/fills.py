@@ -11,7 +11,7 @@ import faulthandler
 import sys
 from collections import Counter
 
-from library import CALLS, FIELDS, PARTS, WIDTHS, Difference, Library, Sizes, Store, described
+from library import CALLS, PARTS, WIDTHS, Library, Sizes, Store, make
 from streams import TOP, valid_mpan
 from worked_example import reading
 
@@ -90,20 +90,6 @@ FILLS = [
     ((1, 2 ** 32 + 1, 1), 100, (1,), 15),
     ((1, 1, 2 ** 32 + 1), 100, (1,), 15),
 ]
-
-
-def make(store, due, name, *arguments, length=0):
-    """One call, with its answer; a list for results has so many entries."""
-    given = {part: store.parts[part] for part in CALLS[name].parts}
-    given.update(zip(CALLS[name].arguments, arguments, strict=True))
-    given.update((each, b'\xa5' * (WIDTHS[each] * length)) for each in CALLS[name].lists)
-    given['fields'] = b'\xa5' * (WIDTHS['fields'] * FIELDS)
-    try:
-        came = store.call(name, given, null=False)
-        if came != due:
-            raise Difference(f'by hand  {due}\ncame     {came}')
-    except Difference as difference:
-        sys.exit(f'{described(name, given)}\n{difference}')
 
 
 def shaped(library, reached, duration, categories, moved):

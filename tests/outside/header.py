@@ -15,7 +15,7 @@ import sys
 import tempfile
 from itertools import product
 
-from library import CALLS, FIELDS
+from library import CALLS, FIELDS, PARTS
 
 ROOT = pathlib.Path(__file__).resolve().parents[2]
 HEADER = (ROOT / 'include' / 'jihoweka.h').read_text()
@@ -75,11 +75,12 @@ def worked_out(sizes):
     rows = ''.join(
         f'    show(JIHOWEKA_SETTINGS_LENGTH({C}, {T}), JIHOWEKA_METERS_LENGTH({M}), '
         f'JIHOWEKA_READINGS_LENGTH({M}, {T}, JIHOWEKA_PERIODS({duration})), '
-        f'JIHOWEKA_CELLS_LENGTH({C}, {T}, JIHOWEKA_PERIODS({duration})));\n'
+        f'JIHOWEKA_CELLS_LENGTH({C}, {T}, JIHOWEKA_PERIODS({duration})), '
+        f'JIHOWEKA_DAYS_LENGTH({C}, {T}));\n'
         for duration, M, C, T in sizes)
     program = ('#include "jihoweka.h"\n#include <stdio.h>\n'
-               'static void show(size_t s, size_t m, size_t r, size_t c) '
-               '{ printf("%zu %zu %zu %zu\\n", s, m, r, c); }\n'
+               'static void show(size_t s, size_t m, size_t r, size_t c, size_t d) '
+               '{ printf("%zu %zu %zu %zu %zu\\n", s, m, r, c, d); }\n'
                f'int main(void) {{\n{rows}}}\n')
     with tempfile.TemporaryDirectory() as folder:
         source, compiled = pathlib.Path(folder, 'lengths.c'), pathlib.Path(folder, 'lengths')
@@ -87,8 +88,7 @@ def worked_out(sizes):
         subprocess.run(['cc', '-std=c99', f'-I{ROOT / "include"}', source, '-o', compiled],
                        check=True)
         lines = subprocess.run([compiled], check=True, capture_output=True, text=True).stdout
-    return [dict(zip(('settings', 'meters', 'readings', 'cells'), map(int, line.split())))
-            for line in lines.splitlines()]
+    return [dict(zip(PARTS, map(int, line.split()), strict=True)) for line in lines.splitlines()]
 
 
 def main():

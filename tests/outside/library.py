@@ -7,11 +7,14 @@ end ends the process, and a write before it is found.
 On a store that the calls made, every answer must be the ledger's. On any other,
 only what holds of every store is tested: the refusals for lengths and for
 arguments out of range, what else a call may answer, and what it must leave alone.
+The days that a run leaves are worked out on every store, from those before it and
+the cells before and after it.
 """
 
 import ctypes
 import mmap
 import struct
+import sys
 from typing import NamedTuple
 
 from ledger import DAY, Ledger, mpan_good, no, opening
@@ -20,11 +23,12 @@ FIELDS = 11                                # entries that `fields` has at least
 HEADER = '>4H'                             # of the settings: duration, meters, categories, dates
 
 # Each array that a call may be lent, with the struct letter of its entries.
-ARRAYS = {'settings': 'B', 'meters': 'Q', 'readings': 'Q', 'cells': 'Q',
+ARRAYS = {'settings': 'B', 'meters': 'Q', 'readings': 'Q', 'cells': 'Q', 'days': 'Q',
           'category_records': 'B', 'day_types': 'B', 'body': 'B', 'missing': 'B',
           'numbers': 'q', 'marks': 'B', 'dates': 'Q', 'filled': 'Q', 'fields': 'q'}
 WIDTHS = {name: struct.calcsize(letter) for name, letter in ARRAYS.items()}
-PARTS = ('settings', 'meters', 'readings', 'cells')
+PARTS = ('settings', 'meters', 'readings', 'cells', 'days')
+WEEK, YEAR = 7, 365                        # dates whose counts are in a sum
 BITS = {'sender': 16, 'limit': 32, 'advance': 32}      # of a number; all others have 64
 
 
@@ -50,8 +54,8 @@ def call(function, parts, written, arguments, lists, results, *checks):
 # By the names of the ledger's calls. A further one is a line here, and in calls.py a turn and the
 # method that makes its arguments.
 CALLS = {
-    'opening': call('jihoweka_open', 'settings meters readings cells',
-                    'settings meters readings cells',
+    'opening': call('jihoweka_open', 'settings meters readings cells days',
+                    'settings meters readings cells days',
                     'duration meter_count category_records day_types', '', 0, 3, 4, 5, 1),
     'registration': call('jihoweka_register', 'settings meters readings', 'meters',
                          'mpan date minute category sender status limit', '', 0,
@@ -59,7 +63,8 @@ CALLS = {
     'reception': call('jihoweka_receive', 'settings meters readings', 'readings',
                       'sender mpan date duration quantity body', '', 0,
                       1, 9, 6, 7, 2, 1001, 1002, 1004, 13, 1005, 1006, 1008, 1009, 1011, 1012),
-    'run': call('jihoweka_run', 'settings meters readings cells', 'cells', 'date', '', 1, 1, 9),
+    'run': call('jihoweka_run', 'settings meters readings cells days', 'cells days', 'date', '',
+                1, 1, 9),
     'totals': call('jihoweka_read_totals', 'settings cells', '', 'date category', '', 11,
                    1, 9, 15, 14),
     'cell': call('jihoweka_read_cell', 'settings cells', '', 'date category period', '', 4,
@@ -73,6 +78,8 @@ CALLS = {
     'fill_opted_out': call('jihoweka_fill_opted_out', 'settings cells', '',
                            'date group quantity connection advance missing', 'filled',
                            0, 1, 9, 15, 14, 17),
+    'coverage': call('jihoweka_read_coverage', 'settings days', '', 'date category', '', 5,
+                     1, 9, 15, 14),
 }
 FOR_ARGUMENTS = (1, 9, 6, 16, 15)          # checks that any store answers alike
 OF_RECORDS = (1005, 1006, 1008, 1009, 1011, 1012)      # with a place always, 13 with one or none
@@ -182,7 +189,8 @@ class Sizes(NamedTuple):
         return {'settings': 8 + 8 * self.categories + self.dates,
                 'meters': 41 * self.meters,
                 'readings': self.dates * self.meters * (1 + self.periods),
-                'cells': self.dates * self.categories * self.periods}
+                'cells': self.dates * self.categories * self.periods,
+                'days': 2 * self.categories * self.dates}
 
 
 def sizes_of(ledger):
@@ -204,6 +212,15 @@ def short(given, sizes):
     least = {**sizes.least(),
              **dict.fromkeys(('numbers', 'marks', 'missing', 'filled'), sizes.periods)}
     return any(len(given[array]) < WIDTHS[array] * least[array] for array in least.keys() & given)
+
+
+def day_of(cells):
+    """The day of a category, from its entries in a date's row."""
+    flags = [cell % 8 for cell in cells]
+    shaped = [cell for cell in cells if cell % 8 in (1, 2, 3)]
+    oldest = min((cell >> 16 & 65535 for cell in shaped), default=65535)
+    fresh, blank = flags.count(1) + flags.count(2), len(cells) - len(shaped)
+    return fresh + (blank << 16) + (oldest << 32) + (1 << 48)
 
 
 class Store:
@@ -229,6 +246,8 @@ class Store:
         elif came != expected:
             raise Difference(f'expected {expected}\ncame     {came}')
         self.test_unchanged(name, given, after, came)
+        if number == 0 and name == 'run':
+            self.test_days(given, after)
         if number == 0:
             self.parts.update((part, after[part]) for part in CALLS[name].parts)
         self.count(name, given, came, expected)
@@ -283,6 +302,15 @@ class Store:
         return any(list(records[at:at + 5]) == key
                    for at in range(first, first + 8 * self.sizes.categories, 8))
 
+    def coverage_kept(self, given):
+        """The coverage as its two entries in days say it, which any store answers alike."""
+        day = 2 * self.sizes.dates * given['category'] + given['date']
+        kept, sums = (struct.unpack_from('Q', given['days'], 8 * entry)[0]
+                      for entry in (day, day + self.sizes.dates))
+        if kept == 0:
+            return no(14)
+        return ('ok', *(sums >> shift & 65535 for shift in (0, 16, 32, 48)), kept >> 32 & 65535)
+
     def heard(self, name, number, after):
         """What came, in the form of the ledger's answers."""
         made = CALLS[name]
@@ -315,6 +343,8 @@ class Store:
         if number == 0 and 'advance' in given:
             marked = [wh for wh, mark in zip(came[1], given['missing']) if mark]
             possible &= sum(marked) == sum(came[1]) == given['advance']
+        if name == 'coverage':
+            possible = came == self.coverage_kept(given)
         if not possible:
             raise Difference(f'came {came}, which cannot be')
 
@@ -340,6 +370,42 @@ class Store:
                 raise Difference(f'came {came}, and entry {at} of {array} was changed '
                                  f'from {before[0]} to {now[0]}')
 
+    def rows_kept(self, given, after):
+        """Date and new row of all whose days a run puts, as the cells show them.
+
+        The date that is run, and the later run dates of its day type up to one whose row stays.
+        """
+        sizes, run = self.sizes, given['date']
+        day_types = given['settings'][8 + 8 * sizes.categories:]
+        width = WIDTHS['cells'] * sizes.categories * sizes.periods
+        for date in range(run, sizes.dates):
+            old, new = (cells[width * date:width * (date + 1)]
+                        for cells in (given['cells'], after['cells']))
+            if date > run:
+                is_run = struct.unpack_from('Q', old)[0] % 8 != 0
+                if not is_run or day_types[date] != day_types[run]:
+                    continue
+                if old == new:
+                    return
+            yield date, [cell for cell, in struct.iter_unpack('Q', new)]
+
+    def test_days(self, given, after):
+        """Whether a run put the days and raised the sums by what changed, modulo 2^64."""
+        dates, periods, least = self.sizes.dates, self.sizes.periods, self.sizes.least()['days']
+        due = list(struct.unpack_from(f'{least}Q', given['days']))
+        for date, row in self.rows_kept(given, after):
+            for category in range(self.sizes.categories):
+                day = 2 * dates * category + date
+                new = day_of(row[periods * category:periods * (category + 1)])
+                change = new % 2 ** 32 - due[day] % 2 ** 32
+                due[day] = new
+                for ahead in range(min(YEAR, dates - date) if change else 0):
+                    raised = (change << 32) + (change if ahead < WEEK else 0)
+                    due[day + dates + ahead] = (due[day + dates + ahead] + raised) % 2 ** 64
+        for at, came in enumerate(struct.unpack_from(f'{least}Q', after['days'])):
+            if came != due[at]:
+                raise Difference(f'entry {at} of days is {came} where {due[at]} is due')
+
     def count(self, name, given, came, expected):
         number, place = came[1:] if came[0] == 'no' else (0, 0)
         self.reached['accepted'] += number == 0
@@ -350,3 +416,21 @@ class Store:
         if number == 13 and place:
             name = 'reception of a bad record'
         self.reached[name, number] += 1
+
+
+def make(store, due, name, *arguments, length=0, **lent):
+    """A call with the answer worked out by hand; ends the program where another one comes.
+
+    A list for results has so many entries, a part is as it stands unless it is given.
+    """
+    given = {part: store.parts[part] for part in CALLS[name].parts}
+    given.update(zip(CALLS[name].arguments, arguments, strict=True))
+    given.update((each, b'\xa5' * (WIDTHS[each] * length)) for each in CALLS[name].lists)
+    given['fields'] = b'\xa5' * (WIDTHS['fields'] * FIELDS)
+    given.update(lent)
+    try:
+        came = store.call(name, given, null=False)
+        if came != due:
+            raise Difference(f'by hand  {due}\ncame     {came}')
+    except Difference as difference:
+        sys.exit(f'{described(name, given)}\n{difference}')

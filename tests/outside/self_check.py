@@ -6,9 +6,10 @@ First hand-made inputs for the forms of commands. Then a second, slower
 calculation: each cell straight from the list of accepted calls by the rules in
 the order the paper gives them, moved by comparing every cell of every date,
 totals by minutes and fractions, nets by adding each cell with its sign, bands by
-adding each date's cells, fills by whole numbers, one Wh after the other. Then
-known slips: the ledger's text is changed in one place, and some stream, or for
-nets, bands and fills some random store, must hear the difference.
+adding each date's cells, fills by whole numbers, one Wh after the other, coverage
+by the age of each cell's date. Then known slips: the ledger's text is changed in
+one place, and some stream, or for nets, bands, fills and coverage some random
+store, must hear the difference.
 """
 
 import random
@@ -70,11 +71,10 @@ class Doubled(ledger.Ledger):
 
     def all_cells(self, calls):
         """(date, category, period) -> cell after so many calls, dates not run included."""
-        cells = {}
-        for date in range(self.dates):
-            run = self.last_run(calls, date)
+        cells, runs = {}, [self.last_run(calls, date) for date in range(self.dates)]
+        for date, run in enumerate(runs):
             earlier = [d for d in range(date) if self.day_types[d] == self.day_types[date]
-                       and self.last_run(calls, d) is not None]
+                       and runs[d] is not None]
             for number, category in enumerate(self.categories):
                 for period in range(1, self.periods + 1):
                     key = date, number, period
@@ -212,6 +212,28 @@ class Doubled(ledger.Ledger):
         Doubled.checked += 1
         return answer
 
+    def coverage(self, date, category):
+        answer = super().coverage(date, category)
+        if answer[0] != 'ok':
+            return answer
+        cells = self.all_cells(len(self.calls))
+        fresh7 = blank7 = fresh365 = blank365 = 0
+        oldest = 65535                     # the origin of N too
+        for d in range(self.dates):
+            age = date - d
+            if age not in range(365) or ('run', d) not in self.calls:
+                continue
+            for period in range(1, self.periods + 1):
+                flag, value, count, origin = cells[d, category, period]
+                fresh365 += flag in 'AD'
+                blank365 += flag == 'N'
+                fresh7 += flag in 'AD' and age < 7
+                blank7 += flag == 'N' and age < 7
+                oldest = min(oldest, origin) if age == 0 else oldest
+        assert answer[1:] == (fresh7, blank7, fresh365, blank365, oldest)
+        Doubled.checked += 1
+        return answer
+
 
 def doubled(plain):
     return Doubled(plain.duration, plain.meters, plain.categories, plain.day_types)
@@ -247,23 +269,26 @@ KEYS = [(1, 1, 1, 1, 1), (1, 1, 1, 2, 1), (1, 2, 1, 1, 1), (1, 2, 1, 2, 1), (1, 
         (2, 0, 0, 1, 1), (2, 0, 0, 2, 1)]
 
 
-def small_store(opening, rng, limit=1000):
-    """A store of nine dates, seven of them run, with a meter for each of six categories."""
+def small_store(opening, rng, limit=1000, dates=range(9)):
+    """A store with all but two of these dates run, and a meter for each of six categories."""
     categories = [(*key, rng.randrange(3) if key[0] == 1 else 0, 0, rng.choice((0, 1, 1, 2)))
                   for key in rng.sample(KEYS, 6)]
-    dates = 9
     store = opening(30, 6, b''.join(map(bytes, categories)),
-                    [rng.choice((1, 1, 2)) for _ in range(dates)])
-    for number, category in enumerate(categories):
-        mpan = valid_mpan(number + 1)
-        store.registration(mpan, 0, 0, number, 7, 1, limit)
-        for date in rng.sample(range(dates), 3):
-            body = b''.join(reading(30 * period, rng.randrange(limit), rng.choice((1, 1, 8)))
-                            for period in rng.sample((1, 2, 3, 47, 48), 3))
-            store.reception(7, mpan, date, 30, category[3], body)
-    for date in rng.sample(range(dates), dates - 2):
+                    [rng.choice((1, 1, 2)) for _ in range(dates[-1] + 1)])
+    for number in range(6):
+        store.registration(valid_mpan(number + 1), 0, 0, number, 7, 1, limit)
+        for date in rng.sample(dates, 3):
+            receive_some(store, rng, number, date, limit)
+    for date in rng.sample(dates, len(dates) - 2):
         store.run(date)
     return store
+
+
+def receive_some(store, rng, number, date, limit=1000):
+    """A set of three records for the meter of this category."""
+    body = b''.join(reading(30 * period, rng.randrange(limit), rng.choice((1, 1, 8)))
+                    for period in rng.sample((1, 2, 3, 47, 48), 3))
+    store.reception(7, valid_mpan(number + 1), date, 30, store.categories[number].quantity, body)
 
 
 def net_answers(opening, seed):
@@ -316,11 +341,25 @@ def fill_answers(opening, seed):
     return answers
 
 
+def coverage_answers(opening, seed):
+    """Coverages of a random store, its dates close together or a year apart, after each rerun."""
+    rng = random.Random(seed)
+    dates = rng.choice((range(9), (0, 1, 6, 7, 8, 364, 365, 366, 371)))
+    store = small_store(opening, rng, dates=dates)
+    answers = []
+    for rerun in rng.choices(dates, k=4):
+        receive_some(store, rng, rng.randrange(6), rerun)
+        store.run(rerun)
+        answers += [store.coverage(date, category) for date in (*dates, store.dates)
+                    for category in range(len(store.categories) + 1)]
+    return answers
+
+
 def check_twice(streams, commands, stores):
     for seed in range(streams):
         list(Doubling(stream(seed, 'small', commands), program.PROFILES['small']).answers())
     for seed in range(stores):
-        for answers in net_answers, band_answers, fill_answers:
+        for answers in net_answers, band_answers, fill_answers, coverage_answers:
             answers(lambda *given: doubled(ledger.opening(*given)), seed)
     return Doubled.checked
 
@@ -529,6 +568,71 @@ FILL_SLIPS = [
      'if not fitting: return no(15)\n        return self.fill(date, fitting'),
 ]
 
+# And for coverage.
+COVERAGE_SLIPS = [
+    ('has a week of six dates', 'length in (7, 365)', 'length in (6, 365)'),
+    ('has a week of eight dates', 'length in (7, 365)', 'length in (8, 365)'),
+    ('has a year of 364 dates', 'length in (7, 365)', 'length in (7, 364)'),
+    ('has a year of 366 dates', 'length in (7, 365)', 'length in (7, 366)'),
+    ('swaps week and year', 'length in (7, 365)', 'length in (365, 7)'),
+    ('counts seven run dates, not calendar dates', 'self.run_dates(date, length)',
+     'self.run_dates(date, 365)[-length:]'),
+    ('counts the dates ahead', 'self.run_dates(date, length)',
+     'self.run_dates(date + length - 1, length)'),
+    ('counts dates not run as blank', "return 'ok', *week, *year,",
+     'week, year = ((fresh, blank + self.periods * sum(\n'
+     '            d not in self.pictures for d in range(max(0, date - length), date)))\n'
+     '            for (fresh, blank), length in ((week, 6), (year, 364)))\n'
+     '        return "ok", *week, *year,'),
+    ('counts copies as fresh', "return flags.count('A') + flags",
+     "return flags.count('A') + flags.count('E') + flags"),
+    ('counts own shapes alone as fresh', " + flags.count('D'), flags", ', flags'),
+    ('counts copies as blank', "flags.count('D'), flags.count('N')",
+     "flags.count('D'), flags.count('N') + flags.count('E')"),
+    ('forgets what is blank on a date without readings', 'return flags.count',
+     'flags = [cell.flag for d in dates for cell in self.cells[d][category] if cell.flag != "N"\n'
+     '                 or any(other.flag in "AD" for other in self.cells[d][category])]\n'
+     '        return flags.count'),
+    ('counts all categories', 'for cell in self.cells[d][category]]\n        return flags',
+     'for row in self.cells[d] for cell in row]\n        return flags'),
+    ('has BLANK before FRESH', '*week, *year', '*week[::-1], *year[::-1]'),
+    ('has both FRESH before both BLANK', '*week, *year', '*sum(zip(week, year), ())'),
+    ('takes the newest origin', 'min(origins, ', 'max(origins, '),
+    ('takes the origin of the first cell that has one', 'min(origins, default=65535)',
+     '[*origins, 65535][0]'),
+    ('takes the oldest origin of fresh cells', "if cell.flag != 'N']", "if cell.flag in 'AD']"),
+    ('takes the oldest origin of copies', "if cell.flag != 'N']", "if cell.flag == 'E']"),
+    ('takes the oldest origin of the week', 'cell in self.cells[date][category] if cell.flag !=',
+     'd in self.run_dates(date, 7) for cell in self.cells[d][category] if cell.flag !='),
+    ('has no oldest origin where a cell is blank', 'min(origins, default=65535)',
+     'min(origins) if len(origins) == self.periods else 65535'),
+    ('dates the blank cells 0', 'min(origins, default=65535)',
+     'min(origins) if len(origins) == self.periods else 0'),
+    ('has the date where all is blank', 'min(origins, default=65535)',
+     'min(origins, default=date)'),
+    ('keeps what it gave first', "return 'ok', *week, *year,",
+     'self.kept = getattr(self, "kept", {})\n'
+     '        week, year = self.kept.setdefault((date, category), (week, year))\n'
+     '        return "ok", *week, *year,'),
+    ('keeps its sums until the date is run again', "return 'ok', *week, *year,",
+     'self.kept = getattr(self, "kept", {})\n'
+     '        picture, sums = self.kept.get((date, category), (None, None))\n'
+     '        if picture is self.pictures[date]: week, year = sums\n'
+     '        self.kept[date, category] = self.pictures[date], (week, year)\n'
+     '        return "ok", *week, *year,'),
+    ('keeps its sums until cells of the date move', "return 'ok', *week, *year,",
+     'self.kept = getattr(self, "kept", {})\n'
+     '        key = date, category, *self.cells[date][category]\n'
+     '        week, year = self.kept.setdefault(key, (week, year))\n'
+     '        return "ok", *week, *year,'),
+    ('finds a date not run before a category that is absent',
+     'if category >= len(self.categories):\n            return no(15)\n'
+     '        if date not in self.pictures:\n            return no(14)\n        week, year = (',
+     'if date not in self.pictures:\n            return no(14)\n'
+     '        if category >= len(self.categories):\n            return no(15)\n'
+     '        week, year = ('),
+]
+
 
 def changed_program(old, new):
     """The command program on the ledger with one place of its text changed."""
@@ -576,7 +680,9 @@ def main():
              and heard_each(BAND_SLIPS, 'store',
                             lambda program, seed: band_answers(program.opening, seed))
              and heard_each(FILL_SLIPS, 'store',
-                            lambda program, seed: fill_answers(program.opening, seed)))
+                            lambda program, seed: fill_answers(program.opening, seed))
+             and heard_each(COVERAGE_SLIPS, 'store',
+                            lambda program, seed: coverage_answers(program.opening, seed)))
     return 0 if heard else 1
 
 

@@ -1,4 +1,5 @@
-"""The paper's worked example, its marked list, a net and bands worked by hand, on the plain ledger.
+"""The paper's worked example, its marked list, a net, bands and coverage worked by hand, on the
+plain ledger.
 
     python3 worked_example.py
 """
@@ -130,9 +131,34 @@ def days_like_the_coming_one():
     assert ledger.band(0, 1, 650, 650, 5) == ('ok', 2, 2, [3, 4])
 
 
+def real_part_of_a_week():
+    """Coverage of the run dates among nine: three readings on the first, then one on the second."""
+    ledger = store((1, 1, 1, 1, 1, 0, 0, 1), dates=9, meters=1)
+    assert ledger.registration(1000000000003, 0, 0, 0, 7, 1, 2 ** 32 - 1) == ('ok',)
+
+    def receive(date, *values):
+        body = b''.join(reading(30 * period, wh) for period, wh in enumerate(values, 1))
+        assert ledger.reception(7, 1000000000003, date, 30, 1, body) == ('ok',)
+
+    receive(0, 10, 20, 30)
+    receive(4, 40)
+    assert [ledger.run(date) for date in (0, 4, 8)] == [('ok', 3), ('ok', 3), ('ok', 3)]
+    assert ledger.coverage(0, 0) == ('ok', 3, 45, 3, 45, 0)
+    assert ledger.coverage(4, 0) == ('ok', 4, 90, 4, 90, 0)
+    assert ledger.coverage(8, 0) == ('ok', 1, 90, 4, 135, 0)
+    assert ledger.coverage(1, 0) == ('no', 14, 0) and ledger.coverage(9, 0) == ('no', 9, 0)
+    # Only the first reading comes again: two cells of each date are lost.
+    receive(0, 10)
+    assert ledger.run(0) == ('ok', 6)
+    assert ledger.coverage(0, 0) == ('ok', 1, 47, 1, 47, 0)
+    assert ledger.coverage(4, 0) == ('ok', 2, 94, 2, 94, 4)
+    assert ledger.coverage(8, 0) == ('ok', 1, 94, 2, 141, 4)
+
+
 if __name__ == '__main__':
     assert run(INPUT) == OUTPUT
     marked_list()
     net_of_panels()
     days_like_the_coming_one()
-    print('worked example, marked list, net and bands agree')
+    real_part_of_a_week()
+    print('worked example, marked list, net, bands and coverage agree')

@@ -12,8 +12,9 @@ use Rattle.input.specs.Operands.{operand, openingOperands, registrationOperands
 use Rattle.output.specs.Lines.{answerLine}
 use Rattle.commands.specs.declared.capacity.Capacity.{Capacity}
 
-abbrev pub partsOf : List ℕ → List ℕ → List ℕ → List ℕ → Parts
-partsOf settings meters readings cells = record { settings = settings; meters = meters; readings = readings; cells = cells }
+abbrev pub partsOf : List ℕ → List ℕ → List ℕ → List ℕ → List ℕ → Parts
+partsOf settings meters readings cells days =
+    record { settings = settings; meters = meters; readings = readings; cells = cells; days = days }
 
 -- the program between two commands: the 11s and 12s collected for the next opening, and the store
 pub record State : Type 0 where
@@ -49,7 +50,7 @@ lent suffices part = cond suffices part []
 
 abbrev pub openingVerdictOn : Bool → Parts → Opening → Verdict
 openingVerdictOn suffices p a =
-    openingVerdict (lent suffices (p .settings)) (lent suffices (p .meters)) (lent suffices (p .readings)) (lent suffices (p .cells)) a
+    openingVerdict (lent suffices (p .settings)) (lent suffices (p .meters)) (lent suffices (p .readings)) (lent suffices (p .cells)) (lent suffices (p .days)) a
 
 unfoldable pub openingAnswer : Capacity → Parts → Opening → Answer
 openingAnswer capacity p a = answer (openingVerdictOn (sufficesFor capacity a) p a) accepted

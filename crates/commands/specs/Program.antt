@@ -104,7 +104,7 @@ firstState n =
     record {
       categoryBytes = [];
       dayTypes = [];
-      parts = partsOf (replicate (n .settings) 0) (replicate (n .meters) 0) (replicate (n .readings) 0) (replicate (n .cells) 0);
+      parts = partsOf (replicate (n .settings) 0) (replicate (n .meters) 0) (replicate (n .readings) 0) (replicate (n .cells) 0) (replicate (n .days) 0);
     }
 
 -- input in any blocks gives what it gives whole

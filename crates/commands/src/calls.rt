@@ -33,13 +33,14 @@ pub fn open(
     meters: &mut [u64],
     readings: &mut [u64],
     cells: &mut [u64],
+    days: &mut [u64],
     capacity: Capacity,
     out: &mut [u8],
     at: usize,
 ) -> usize
     requires { ⌜ (4 ≤ length (now command)) × (at + 300 ≤ length (now out)) ⌝ }
-    ensures { λ r. ⌜ Appended (now (out .entry)) at (now (out .exit)) r (answerLine 16 (openingAnswer capacity (partsOf (now (settings .entry)) (now (meters .entry)) (now (readings .entry)) (now (cells .entry))) (openingOf (now (command .entry)) (now («category_records» .entry)) (now («day_types» .entry))))) ⌝ }
-    ensures { λ r. ⌜ partsOf (now (settings .exit)) (now (meters .exit)) (now (readings .exit)) (now (cells .exit)) ≡ openingLeaves capacity (partsOf (now (settings .entry)) (now (meters .entry)) (now (readings .entry)) (now (cells .entry))) (openingOf (now (command .entry)) (now («category_records» .entry)) (now («day_types» .entry))) ⌝ }
+    ensures { λ r. ⌜ Appended (now (out .entry)) at (now (out .exit)) r (answerLine 16 (openingAnswer capacity (partsOf (now (settings .entry)) (now (meters .entry)) (now (readings .entry)) (now (cells .entry)) (now (days .entry))) (openingOf (now (command .entry)) (now («category_records» .entry)) (now («day_types» .entry))))) ⌝ }
+    ensures { λ r. ⌜ partsOf (now (settings .exit)) (now (meters .exit)) (now (readings .exit)) (now (cells .exit)) (now (days .exit)) ≡ openingLeaves capacity (partsOf (now (settings .entry)) (now (meters .entry)) (now (readings .entry)) (now (cells .entry)) (now (days .entry))) (openingOf (now (command .entry)) (now («category_records» .entry)) (now («day_types» .entry))) ⌝ }
     ensures { λ r. ⌜ r ≤ at + 300 ⌝ }
 {
     let given = opening_operands(command);
@@ -54,6 +55,7 @@ pub fn open(
             meters,
             readings,
             cells,
+            days,
             terms,
             category_records,
             day_types,
@@ -65,6 +67,7 @@ pub fn open(
         &mut meters[..0],
         &mut readings[..0],
         &mut cells[..0],
+        &mut days[..0],
         terms,
         category_records,
         day_types,
@@ -153,15 +156,17 @@ fn run(
     meters: &[u64],
     readings: &[u64],
     cells: &mut [u64],
+    days: &mut [u64],
     out: &mut [u8],
     at: usize,
 ) -> usize
     requires { ⌜ (3 ≤ length (now command)) × (at + 300 ≤ length (now out)) ⌝ }
-    ensures { λ r. ⌜ Appended (now (out .entry)) at (now (out .exit)) r (answerLine 22 (answer (runVerdict (now (settings .entry)) (now (meters .entry)) (now (readings .entry)) (now (cells .entry)) (operand runWidths 0 (now (command .entry)))) (moved (ranFrom (now (settings .entry)) (now (meters .entry)) (now (readings .entry)) (now (cells .entry)) (operand runWidths 0 (now (command .entry))) .moved)))) ⌝ }
-    ensures { λ r. ⌜ now (cells .exit) ≡ left (runVerdict (now (settings .entry)) (now (meters .entry)) (now (readings .entry)) (now (cells .entry)) (operand runWidths 0 (now (command .entry)))) (now (cells .entry)) (ranFrom (now (settings .entry)) (now (meters .entry)) (now (readings .entry)) (now (cells .entry)) (operand runWidths 0 (now (command .entry))) .cells) ⌝ }
+    ensures { λ r. ⌜ Appended (now (out .entry)) at (now (out .exit)) r (answerLine 22 (answer (runVerdict (now (settings .entry)) (now (meters .entry)) (now (readings .entry)) (now (cells .entry)) (now (days .entry)) (operand runWidths 0 (now (command .entry)))) (moved (ranFrom (now (settings .entry)) (now (meters .entry)) (now (readings .entry)) (now (cells .entry)) (now (days .entry)) (operand runWidths 0 (now (command .entry))) .moved)))) ⌝ }
+    ensures { λ r. ⌜ now (cells .exit) ≡ left (runVerdict (now (settings .entry)) (now (meters .entry)) (now (readings .entry)) (now (cells .entry)) (now (days .entry)) (operand runWidths 0 (now (command .entry)))) (now (cells .entry)) (ranFrom (now (settings .entry)) (now (meters .entry)) (now (readings .entry)) (now (cells .entry)) (now (days .entry)) (operand runWidths 0 (now (command .entry))) .published .cells) ⌝ }
+    ensures { λ r. ⌜ now (days .exit) ≡ left (runVerdict (now (settings .entry)) (now (meters .entry)) (now (readings .entry)) (now (cells .entry)) (now (days .entry)) (operand runWidths 0 (now (command .entry)))) (now (days .entry)) (ranFrom (now (settings .entry)) (now (meters .entry)) (now (readings .entry)) (now (cells .entry)) (now (days .entry)) (operand runWidths 0 (now (command .entry))) .published .days) ⌝ }
     ensures { λ r. ⌜ r ≤ at + 300 ⌝ }
 {
-    let outcome = engine::run(settings, meters, readings, cells, two(command, 1));
+    let outcome = engine::run(settings, meters, readings, cells, days, two(command, 1));
     append_run(out, at, outcome)
 }
 
@@ -196,13 +201,14 @@ pub fn ask(
     meters: &mut [u64],
     readings: &mut [u64],
     cells: &mut [u64],
+    days: &mut [u64],
     out: &mut [u8],
     at: usize,
 ) -> usize
     requires { ⌜ Command (now command) × (at + 300 ≤ length (now out)) ⌝ }
     requires { ⌜ (getD (now command) 0 0 ≡ 16 → ⊥) × (getD (now command) 0 0 ≡ 17 → ⊥) × (getD (now command) 0 0 ≡ 18 → ⊥) ⌝ }
-    ensures { λ r. ⌜ Appended (now (out .entry)) at (now (out .exit)) r (answerLine (code (now (command .entry))) (callAnswer (partsOf (now (settings .entry)) (now (meters .entry)) (now (readings .entry)) (now (cells .entry))) (callOf (now (command .entry))))) ⌝ }
-    ensures { λ r. ⌜ partsOf (now (settings .entry)) (now (meters .exit)) (now (readings .exit)) (now (cells .exit)) ≡ leaves (partsOf (now (settings .entry)) (now (meters .entry)) (now (readings .entry)) (now (cells .entry))) (callOf (now (command .entry))) ⌝ }
+    ensures { λ r. ⌜ Appended (now (out .entry)) at (now (out .exit)) r (answerLine (code (now (command .entry))) (callAnswer (partsOf (now (settings .entry)) (now (meters .entry)) (now (readings .entry)) (now (cells .entry)) (now (days .entry))) (callOf (now (command .entry))))) ⌝ }
+    ensures { λ r. ⌜ partsOf (now (settings .entry)) (now (meters .exit)) (now (readings .exit)) (now (cells .exit)) (now (days .exit)) ≡ leaves (partsOf (now (settings .entry)) (now (meters .entry)) (now (readings .entry)) (now (cells .entry)) (now (days .entry))) (callOf (now (command .entry))) ⌝ }
     ensures { λ r. ⌜ r ≤ at + 300 ⌝ }
 {
     let code = command[0];
@@ -215,6 +221,7 @@ pub fn ask(
             &meters[..],
             &readings[..],
             cells,
+            days,
             out,
             at,
         ),

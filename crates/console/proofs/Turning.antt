@@ -25,9 +25,9 @@ use Rattle.console.specs.Turn.{Dialogue, HasRoom, SameCollected, Stands,
 
 -- ---- what only commands change
 
-pub same-state : (s r : Session) → SameCollected s r → (records types settings meters readings cells : List ℕ) →
-    stateOf r records types settings meters readings cells ≡ stateOf s records types settings meters readings cells
-same-state s r same records types settings meters readings cells = rw (same .0, same .1)
+pub same-state : (s r : Session) → SameCollected s r → (records types settings meters readings cells days : List ℕ) →
+    stateOf r records types settings meters readings cells days ≡ stateOf s records types settings meters readings cells days
+same-state s r same records types settings meters readings cells days = rw (same .0, same .1)
 
 pub same-held : (s r : Session) → SameCollected s r → (output records types : ℕ) → r .waiting ≤ output → Held s output records types → Held r output records types
 same-held s r same output records types waiting held =

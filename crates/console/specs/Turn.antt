@@ -22,10 +22,10 @@ pub record Dialogue : Type 0 where
   pub waits : List ℕ
   pub stage : Stage
 
-abbrev pub dialogueOf : Session → List ℕ → List ℕ → List ℕ → List ℕ → List ℕ → List ℕ → List ℕ → List ℕ → Dialogue
-dialogueOf s input output categoryRecords dayTypes settings meters readings cells =
+abbrev pub dialogueOf : Session → List ℕ → List ℕ → List ℕ → List ℕ → List ℕ → List ℕ → List ℕ → List ℕ → List ℕ → Dialogue
+dialogueOf s input output categoryRecords dayTypes settings meters readings cells days =
     record {
-      state = stateOf s categoryRecords dayTypes settings meters readings cells;
+      state = stateOf s categoryRecords dayTypes settings meters readings cells days;
       untaken = untaken s input;
       waits = take (s .waiting) output;
       stage = s .stage;

@@ -43,13 +43,14 @@ fn turn(
     meters: &mut [u64],
     readings: &mut [u64],
     cells: &mut [u64],
+    days: &mut [u64],
     capacity: Capacity,
 ) -> Session
     requires { ⌜ BlockBounds session (length (now input)) × (session .stage ≡ Going) × (1 ≤ session .turns) ⌝ }
     requires { ⌜ Held session (length (now output)) (length (now «category_records»)) (length (now «day_types»)) × (300 ≤ length (now output)) × (2056 ≤ length (now input)) ⌝ }
     ensures { λ r. ⌜ BlockBounds r (length (now (input .entry))) × (r .turns + 1 ≡ session .turns) ⌝ }
     ensures { λ r. ⌜ Held r (length (now (output .entry))) (length (now («category_records» .entry))) (length (now («day_types» .entry))) ⌝ }
-    ensures { λ r. ⌜ Turned (setupOf (now («category_records» .entry)) (now («day_types» .entry)) capacity) (dialogueOf session (now (input .entry)) (now (output .entry)) (now («category_records» .entry)) (now («day_types» .entry)) (now (settings .entry)) (now (meters .entry)) (now (readings .entry)) (now (cells .entry))) (dialogueOf r (now (input .exit)) (now (output .exit)) (now («category_records» .exit)) (now («day_types» .exit)) (now (settings .exit)) (now (meters .exit)) (now (readings .exit)) (now (cells .exit))) ⌝ }
+    ensures { λ r. ⌜ Turned (setupOf (now («category_records» .entry)) (now («day_types» .entry)) capacity) (dialogueOf session (now (input .entry)) (now (output .entry)) (now («category_records» .entry)) (now («day_types» .entry)) (now (settings .entry)) (now (meters .entry)) (now (readings .entry)) (now (cells .entry)) (now (days .entry))) (dialogueOf r (now (input .exit)) (now (output .exit)) (now («category_records» .exit)) (now («day_types» .exit)) (now (settings .exit)) (now (meters .exit)) (now (readings .exit)) (now (cells .exit)) (now (days .exit))) ⌝ }
 {
     let mut next = session;
     next.turns -= 1;
@@ -63,6 +64,7 @@ fn turn(
         meters,
         readings,
         cells,
+        days,
         capacity,
     );
     let stage = told.stage;
@@ -81,11 +83,12 @@ fn take_turns(
     meters: &mut [u64],
     readings: &mut [u64],
     cells: &mut [u64],
+    days: &mut [u64],
     capacity: Capacity,
 ) -> Session
     requires { ⌜ (300 ≤ length (now output)) × (2056 ≤ length (now input)) ⌝ }
     ensures { λ r. ⌜ r .waiting ≤ length (now (output .entry)) ⌝ }
-    ensures { λ r. ⌜ Ran (setupOf (now («category_records» .entry)) (now («day_types» .entry)) capacity) (partsOf (now (settings .entry)) (now (meters .entry)) (now (readings .entry)) (now (cells .entry))) (dialogueOf r (now (input .exit)) (now (output .exit)) (now («category_records» .exit)) (now («day_types» .exit)) (now (settings .exit)) (now (meters .exit)) (now (readings .exit)) (now (cells .exit))) ⌝ }
+    ensures { λ r. ⌜ Ran (setupOf (now («category_records» .entry)) (now («day_types» .entry)) capacity) (partsOf (now (settings .entry)) (now (meters .entry)) (now (readings .entry)) (now (cells .entry)) (now (days .entry))) (dialogueOf r (now (input .exit)) (now (output .exit)) (now («category_records» .exit)) (now («day_types» .exit)) (now (settings .exit)) (now (meters .exit)) (now (readings .exit)) (now (cells .exit)) (now (days .exit))) ⌝ }
 {
     let mut session = Session {
         at: 0,
@@ -108,6 +111,7 @@ fn take_turns(
             meters,
             readings,
             cells,
+            days,
             capacity,
         );
         let stage = session.stage;
@@ -125,9 +129,10 @@ pub fn converse(
     meters: &mut [u64],
     readings: &mut [u64],
     cells: &mut [u64],
+    days: &mut [u64],
     capacity: Capacity,
 ) -> Stage
-    ensures { λ r. ⌜ Conversed (setupOf (now («category_records» .entry)) (now («day_types» .entry)) capacity) (partsOf (now (settings .entry)) (now (meters .entry)) (now (readings .entry)) (now (cells .entry))) (partsOf (now (settings .exit)) (now (meters .exit)) (now (readings .exit)) (now (cells .exit))) r ⌝ }
+    ensures { λ r. ⌜ Conversed (setupOf (now («category_records» .entry)) (now («day_types» .entry)) capacity) (partsOf (now (settings .entry)) (now (meters .entry)) (now (readings .entry)) (now (cells .entry)) (now (days .entry))) (partsOf (now (settings .exit)) (now (meters .exit)) (now (readings .exit)) (now (cells .exit)) (now (days .exit))) r ⌝ }
 {
     let mut input = io::large_buffer();
     let mut output = io::large_buffer();
@@ -140,6 +145,7 @@ pub fn converse(
         meters,
         readings,
         cells,
+        days,
         capacity,
     );
     let stage = session.stage;

@@ -13,10 +13,10 @@ use borrow.Table.Steps.{cases}
 use borrow.Author.Tests.{lt-ltb, eqb-true, eqb-false, ne-eqb}
 use Rattle.ledger.specs.Sizes.{headerLength, settingsLength}
 use Rattle.ledger.specs.Checks.{Verdict, orElse, firstNumber, callNumber, registrationCheck, receptionCheck, runCheck, readCheck, netCheck, bandCheck, fillCheck}
-use Rattle.ledger.specs.Ledger.{Ledger, start, Call, register, receive, run, readTotals, readCell, readNet, searchBand, fillHole, refused, answer, accepted, left, settingsShort, metersShort, anyShort, Lengths, ledgerAnswer, ledgerAfter, Opening}
+use Rattle.ledger.specs.Ledger.{Ledger, start, Call, register, receive, run, readTotals, readCell, readNet, searchBand, fillHole, readCoverage, refused, answer, accepted, left, settingsShort, metersShort, anyShort, Lengths, ledgerAnswer, ledgerAfter, Opening}
 use Rattle.ledger.specs.Store.{word, metersOf, settingsReady}
 use Rattle.ledger.specs.Ready.{ready, header-there}
-use Rattle.ledger.specs.Calls.{metersUnready, runUnready, cellsUnready, openingVerdict, registrationVerdict, receptionVerdict, runVerdict, totalsVerdict, cellVerdict, netVerdict, bandVerdict, fillVerdict}
+use Rattle.ledger.specs.Calls.{metersUnready, runUnready, cellsUnready, daysUnready, openingVerdict, registrationVerdict, receptionVerdict, runVerdict, totalsVerdict, cellVerdict, netVerdict, bandVerdict, fillVerdict, coverageVerdict}
 use Rattle.ledger.specs.Engine.{Parts, callAnswer, leaves, openedParts, afterOpening, cut, restored, partsAfter, cutLengths, lengthsOf, AreBytes, BodyOfBytes}
 use Rattle.ledger.proofs.Verdicts.{left-some}
 use Rattle.ledger.proofs.Open.{opening-accepted}
@@ -37,7 +37,7 @@ use Rattle.conversation.proofs.Simulation.{Simulates, same-output}
 module _ (p : Parts) (unready : settingsReady (p .settings) ≡ false) where
   -- a call on settings that are not ready answers 1
   unready-answer : (c : Call) → callAnswer p c ≡ refused 1 0
-  unfolding callAnswer answer metersUnready runUnready cellsUnready registrationVerdict receptionVerdict runVerdict totalsVerdict cellVerdict netVerdict bandVerdict fillVerdict registrationCheck receptionCheck runCheck readCheck netCheck bandCheck fillCheck callNumber firstNumber orElse
+  unfolding callAnswer answer metersUnready runUnready cellsUnready daysUnready registrationVerdict receptionVerdict runVerdict totalsVerdict cellVerdict netVerdict bandVerdict fillVerdict coverageVerdict registrationCheck receptionCheck runCheck readCheck netCheck bandCheck fillCheck callNumber firstNumber orElse
   unready-answer (register a) = rw unready
   unready-answer (receive a) = rw unready
   unready-answer (run d) = rw unready
@@ -46,6 +46,7 @@ module _ (p : Parts) (unready : settingsReady (p .settings) ≡ false) where
   unready-answer (readNet a) = rw unready
   unready-answer (searchBand a) = rw unready
   unready-answer (fillHole a) = rw unready
+  unready-answer (readCoverage d c) = rw unready
 
   -- and changes nothing
   unready-leaves : (c : Call) → leaves p c ≡ p
@@ -58,6 +59,7 @@ module _ (p : Parts) (unready : settingsReady (p .settings) ≡ false) where
   unready-leaves (readNet a) = refl
   unready-leaves (searchBand a) = refl
   unready-leaves (fillHole a) = refl
+  unready-leaves (readCoverage d c) = refl
 
 -- ---- what the plain program keeps, and the parts
 
@@ -83,6 +85,7 @@ cut-whole p =
       meters = take-length (p .meters) i;
       readings = take-length (p .readings) i;
       cells = take-length (p .cells) i;
+      days = take-length (p .days) i;
     }
 
 put-back : (xs ys : List ℕ) → xs ++ drop (length ys) ys ≡ xs
@@ -97,6 +100,7 @@ restored-whole p q =
       meters = put-back (q .meters) (p .meters) i;
       readings = put-back (q .readings) (p .readings) i;
       cells = put-back (q .cells) (p .cells) i;
+      days = put-back (q .days) (p .days) i;
     }
 
 min-self : (n : ℕ) → min n n ≡ n
@@ -111,6 +115,7 @@ lengths-whole n =
       meters = min-self (n .meters) i;
       readings = min-self (n .readings) i;
       cells = min-self (n .cells) i;
+      days = min-self (n .days) i;
     }
 
 whole-step : (n : Lengths) (p : Parts) (l : Ledger) (c : Call) → Agrees n p l → BodyOfBytes c →
@@ -157,13 +162,13 @@ call-bytes b h =
 
 -- empty parts are short
 
-none-short : (a : Opening) → anyShort a (record { settings = 0; meters = 0; readings = 0; cells = 0 }) ≡ true
+none-short : (a : Opening) → anyShort a (record { settings = 0; meters = 0; readings = 0; cells = 0; days = 0 }) ≡ true
 unfolding anyShort metersShort settingsShort settingsLength
 none-short a = rw (lt-ltb 0 (headerLength + 8 * (length (a .categoryBytes) / 8) + length (a .dayTypes)) (omega arith))
 
-none-refused : (a : Opening) → openingVerdict [] [] [] [] a .number ≡ 0 → ⊥
+none-refused : (a : Opening) → openingVerdict [] [] [] [] [] a .number ≡ 0 → ⊥
 unfolding settingsLength
-none-refused a e = let long = opening-accepted [] [] [] [] a e .settings-long in let no : 1 ≤ 0 = omega (arith, long) in not-suc-le-zero no
+none-refused a e = let long = opening-accepted [] [] [] [] [] a e .settings-long in let no : 1 ≤ 0 = omega (arith, long) in not-suc-le-zero no
 
 -- the verdict on the parts lent is the plain program's
 same-verdict : (capacity : Capacity) (p : Parts) (a : Opening) → openingVerdictOn (sufficesFor capacity a) p a ≡ plainOpening capacity (lengthsOf p) a

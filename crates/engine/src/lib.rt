@@ -1,5 +1,6 @@
 // The engine's face: all that its users call and are answered with. No call has a `requires`; each contract stands with its call.
 pub use band::search_band;
+pub use coverage::read_coverage;
 pub use entries::cell::Cell;
 pub use entries::cell::Flag;
 pub use entries::cell::letter;
@@ -16,6 +17,8 @@ pub use settings::writing::OpeningTerms;
 pub use store::outcome::Band;
 pub use store::outcome::BandOutcome;
 pub use store::outcome::CellOutcome;
+pub use store::outcome::Coverage;
+pub use store::outcome::CoverageOutcome;
 pub use store::outcome::Net;
 pub use store::outcome::NetOutcome;
 pub use store::outcome::Outcome;

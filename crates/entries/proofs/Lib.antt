@@ -1,2 +1,3 @@
--- Laws of rows of entries that several crates cite.
+-- Laws of rows of entries and of days that several crates cite.
 pub mod RowLaws
+pub mod DayLaws

@@ -1,4 +1,4 @@
-// A cell by value, and the two leaves that know its entry's encoding: `cell_of_entry` reads, `entry_of` puts.
+// A cell by value, and the two leaves that read and put its entry: `cell_of_entry` and `entry_of`.
 ghost use mathlib.Core.Path.{_≡_};
 ghost use Prim.Native.Nat.{_<_};
 ghost use Rattle.ledger.specs.Method.{flagNumber, letterOf, blank, ownCell, pooledCell, isOwnCell, carried, sameCell};

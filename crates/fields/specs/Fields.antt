@@ -6,10 +6,10 @@ use mathlib.Core.List.{List, [], _∷_}
 use lib.Dec.{ltb}
 use lib.IntN.{ℤ, pos}
 use lib.ListN.{length, take}
-use Rattle.ledger.specs.Method.{letterOf, Cell, Totals}
+use Rattle.ledger.specs.Method.{letterOf, Cell, Totals, Coverage}
 use Rattle.ledger.specs.Opening.{Opening}
-use Rattle.ledger.specs.Ledger.{Answer, refused, accepted, moved, totalsAre, cellIs, netIs, bandIs, filledAre, left}
-use Rattle.ledger.specs.Calls.{openingVerdict, openedSettings, openedMeters, openedReadings, openedCells, overwritten}
+use Rattle.ledger.specs.Ledger.{Answer, refused, accepted, moved, totalsAre, cellIs, netIs, bandIs, filledAre, coverageIs, left}
+use Rattle.ledger.specs.Calls.{openingVerdict, openedSettings, openedMeters, openedReadings, openedCells, openedDays, overwritten}
 use Rattle.ledger.specs.Engine.{Every}
 use Rattle.fields.specs.declared.numbers.Numbers.{Numbers}
 
@@ -23,6 +23,7 @@ numberOf (cellIs a) = 0
 numberOf (netIs n) = 0
 numberOf (bandIs b) = 0
 numberOf (filledAre v) = 0
+numberOf (coverageIs c) = 0
 
 -- TOT OFF PEAK TOT7 OFF7 PEAK7 days7 ANN days FRESH BLANK
 abbrev pub totalsFields : Totals → List ℕ
@@ -32,6 +33,10 @@ totalsFields t =
 -- flag, value, count, origin
 abbrev pub cellFields : Cell → List ℕ
 cellFields a = letterOf (a .flag) ∷ a .value ∷ a .count ∷ a .origin ∷ []
+
+-- FRESH7 BLANK7 FRESH365 BLANK365 oldest origin
+abbrev pub coverageFields : Coverage → List ℕ
+coverageFields c = c .fresh7 ∷ c .blanks7 ∷ c .fresh365 ∷ c .blanks365 ∷ c .oldest ∷ []
 
 abbrev pub signed : List ℕ → List ℤ
 signed [] = []
@@ -48,6 +53,7 @@ fieldsOf (cellIs a) = signed (cellFields a)
 fieldsOf (netIs n) = n .tot ∷ n .tot7 ∷ []
 fieldsOf (bandIs b) = pos (b .written) ∷ pos (b .found) ∷ []
 fieldsOf (filledAre v) = []
+fieldsOf (coverageIs c) = signed (coverageFields c)
 
 -- 1 before all checks, and then nothing is written: the list has fewer than eleven entries
 abbrev pub listShort : List ℤ → Bool
@@ -63,11 +69,12 @@ abbrev pub unlessShort : {A : Type 0} → List ℤ → List A → List A → Lis
 unlessShort list before after = cond (listShort list) before after
 
 -- the parts that an opening leaves
-pub record OpeningLeaves (list : List ℤ) (S M R C : List ℕ) (a : Opening) (S′ M′ R′ C′ : List ℕ) : Type 0 where
-  pub settings : S′ ≡ unlessShort list S (left (openingVerdict S M R C a) S (openedSettings a S))
-  pub meters : M′ ≡ unlessShort list M (left (openingVerdict S M R C a) M (openedMeters a M))
-  pub readings : R′ ≡ unlessShort list R (left (openingVerdict S M R C a) R (openedReadings a R))
-  pub cells : C′ ≡ unlessShort list C (left (openingVerdict S M R C a) C (openedCells a C))
+pub record OpeningLeaves (list : List ℤ) (S M R C D : List ℕ) (a : Opening) (S′ M′ R′ C′ D′ : List ℕ) : Type 0 where
+  pub settings : S′ ≡ unlessShort list S (left (openingVerdict S M R C D a) S (openedSettings a S))
+  pub meters : M′ ≡ unlessShort list M (left (openingVerdict S M R C D a) M (openedMeters a M))
+  pub readings : R′ ≡ unlessShort list R (left (openingVerdict S M R C D a) R (openedReadings a R))
+  pub cells : C′ ≡ unlessShort list C (left (openingVerdict S M R C D a) C (openedCells a C))
+  pub days : D′ ≡ unlessShort list D (left (openingVerdict S M R C D a) D (openedDays a D))
 
 -- ---- in the code
 
@@ -84,6 +91,7 @@ FieldsFit (cellIs a) = Every Fits (cellFields a)
 FieldsFit (netIs n) = Unit {0}
 FieldsFit (bandIs b) = Fits (b .written) × Fits (b .found)
 FieldsFit (filledAre v) = Unit {0}
+FieldsFit (coverageIs c) = Every Fits (coverageFields c)
 
 -- the fields stand at the front of the array
 pub record AsNumbers (given : Answer) (r : Numbers) : Type 0 where

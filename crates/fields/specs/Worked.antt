@@ -1,10 +1,10 @@
 -- Answers as numbers, worked out by hand: those of the scope paper's example, a refusal with a place, totals that all differ, cells, a net,
--- a band and a fill.
+-- a band, a fill and a coverage.
 use mathlib.Core.Path.{_≡_, refl}
 use mathlib.Core.List.{[], _∷_, map}
 use lib.IntN.{pos, negsuc}
 use Rattle.ledger.specs.Method.{E, N}
-use Rattle.ledger.specs.Ledger.{refused, totalsAre, cellIs, netIs, bandIs, filledAre}
+use Rattle.ledger.specs.Ledger.{refused, totalsAre, cellIs, netIs, bandIs, filledAre, coverageIs}
 use Rattle.ledger.specs.Marked.{exampleAnswers}
 use Rattle.fields.specs.Fields.{numberOf, fieldsOf}
 
@@ -29,4 +29,5 @@ pub worked-fields :
     × (fieldsOf (bandIs (record { written = 2; found = 3; dates = 0 ∷ 2 ∷ [] })) ≡ pos 2 ∷ pos 3 ∷ [])
     × (numberOf (filledAre (46 ∷ 27 ∷ 27 ∷ 0 ∷ [])) ≡ 0)
     × (fieldsOf (filledAre (46 ∷ 27 ∷ 27 ∷ 0 ∷ [])) ≡ [])
-worked-fields = (refl, refl, refl, refl, refl, refl, refl, refl, refl, refl, refl)
+    × (fieldsOf (coverageIs (record { fresh7 = 1; blanks7 = 94; fresh365 = 2; blanks365 = 141; oldest = 4 })) ≡ pos 1 ∷ pos 94 ∷ pos 2 ∷ pos 141 ∷ pos 4 ∷ [])
+worked-fields = (refl, refl, refl, refl, refl, refl, refl, refl, refl, refl, refl, refl)

@@ -2,6 +2,8 @@
 use engine::BandOutcome;
 use engine::Cell;
 use engine::CellOutcome;
+use engine::Coverage;
+use engine::CoverageOutcome;
 use engine::NetOutcome;
 use engine::Outcome;
 use engine::RunOutcome;
@@ -13,10 +15,10 @@ ghost use mathlib.Core.List.{List};
 ghost use Prim.Native.Nat.{ℕ, _≤_};
 ghost use lib.IntN.{ℤ};
 ghost use lib.ListN.{length, take};
-ghost use Rattle.ledger.specs.Ledger.{totalsAre, cellIs, refused};
+ghost use Rattle.ledger.specs.Ledger.{totalsAre, cellIs, coverageIs, refused};
 ghost use Rattle.ledger.specs.Calls.{overwritten};
 ghost use Rattle.entries.specs.Cell.{cellMeant};
-ghost use Rattle.store.specs.Outcome.{answerOf, runAnswer, totalsMeant, totalsAnswer, cellAnswer, netAnswer, bandAnswer};
+ghost use Rattle.store.specs.Outcome.{answerOf, runAnswer, totalsMeant, totalsAnswer, cellAnswer, netAnswer, bandAnswer, coverageMeant, coverageAnswer};
 ghost use Rattle.fields.specs.Fields.{Fits, FieldsFit, AsNumbers};
 
 // The fields stand at the front of the array.
@@ -175,6 +177,44 @@ pub fn of_band(outcome: BandOutcome) -> Numbers
             }
         }
         BandOutcome::Refused { number, place } => refusal(number, place),
+    }
+}
+
+fn coverage_fields(c: Coverage) -> Numbers
+    requires { ⌜ FieldsFit (coverageIs (coverageMeant c)) ⌝ }
+    ensures { λ r. ⌜ AsNumbers (coverageIs (coverageMeant c)) r ⌝ }
+{
+    let fresh7 = c.fresh7 as i64;
+    let blanks7 = c.blanks7 as i64;
+    let fresh365 = c.fresh365 as i64;
+    let blanks365 = c.blanks365 as i64;
+    let oldest = c.oldest as i64;
+    Numbers {
+        number: 0,
+        fields: [
+            fresh7,
+            blanks7,
+            fresh365,
+            blanks365,
+            oldest,
+            0,
+            0,
+            0,
+            0,
+            0,
+            0,
+        ],
+        count: 5,
+    }
+}
+
+pub fn of_coverage(outcome: CoverageOutcome) -> Numbers
+    requires { ⌜ FieldsFit (coverageAnswer outcome) ⌝ }
+    ensures { λ r. ⌜ AsNumbers (coverageAnswer outcome) r ⌝ }
+{
+    match outcome {
+        CoverageOutcome::Coverage(c) => coverage_fields(c),
+        CoverageOutcome::Refused { number, place } => refusal(number, place),
     }
 }
 

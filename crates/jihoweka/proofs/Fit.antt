@@ -15,19 +15,20 @@ use Rattle.metering.specs.Sum.{sumBelow}
 use Rattle.metering.specs.Average.{average, annual}
 use Rattle.metering.specs.Range.{dayTypeValid}
 use Rattle.metering.specs.Calendar.{liesWithin, windowStart, windowEnd}
-use Rattle.ledger.specs.Method.{Category, Flag, A, D, E, N, letterOf, isFresh, isBlank, Cell, overRunDates, totOn, offOn, peakOn, totalsOn}
+use Rattle.ledger.specs.Method.{Category, Flag, A, D, E, N, letterOf, Cell, overRunDates, totOn, offOn, peakOn, freshAmong, blanksAmong, totalsOn}
 use Rattle.ledger.specs.Opening.{Opening, categories, dates}
 use Rattle.ledger.specs.Table.{tabulate}
 use Rattle.ledger.specs.Checks.{Registration, RegistrationCall, ReceptionCall, Verdict, firstFailed, orElse, sizesValid, openingCheck, bodyCheck, inForceCheck, receptionCheck, runCheck, readCheck, bandCheck, NetCall}
 use Rattle.ledger.specs.Band.{BandCall, bandOn, bandDates}
 use Rattle.ledger.specs.Fill.{FillCall}
-use Rattle.ledger.specs.Ledger.{Answer, answer, accepted, moved, totalsAre, cellIs, netIs, bandIs, filledAre}
-use Rattle.ledger.specs.Store.{categoriesOf, datesOf, periodsOf, rowLength, dayTypeOf, settingsReady, readingsReady, cellsReady, cellOfEntry, cellIndex, isRunAt}
-use Rattle.ledger.specs.Calls.{Placing, putRow, openingVerdict, registrationVerdict, receptionVerdict, runUnready, runVerdict, rowAt, carriedEntry, comparedEntry, differing, follows, movedInRow, movedByRow, followRow, inheritedAfter, carryOn, settled, newRow, ranFrom, cellsUnready, totalsVerdict, cellVerdict, cellFor, totalsFor, netVerdict, netFor, bandVerdict, bandFor, fillVerdict, fillFor}
+use Rattle.ledger.specs.Ledger.{Answer, answer, accepted, moved, totalsAre, cellIs, netIs, bandIs, filledAre, coverageIs}
+use Rattle.ledger.specs.Store.{categoriesOf, datesOf, periodsOf, rowLength, dayTypeOf, settingsReady, readingsReady, cellsReady, daysReady, cellOfEntry, cellIndex, isRunAt, coverageOf}
+use Rattle.ledger.specs.Calls.{Published, asPublished, Placing, publish, openingVerdict, registrationVerdict, receptionVerdict, runUnready, runVerdict, rowAt, carriedEntry, comparedEntry, differing, follows, movedInRow, movedByRow, followRow, inheritedAfter, carryOn, settled, newRow, ranFrom, cellsUnready, totalsVerdict, cellVerdict, cellFor, totalsFor, netVerdict, netFor, bandVerdict, bandFor, fillVerdict, fillFor, coverageVerdict, coverageFor}
 use Rattle.ledger.specs.Ready.{Ready, ready, periods-bound, row-bounds}
 use Rattle.ledger.proofs.Open.{sizes-valid}
 use Rattle.ledger.proofs.Choices.{check-passed}
 use Rattle.ledger.proofs.Chosen.{chosen-few}
+use Rattle.ledger.proofs.Days.{fresh-one, blank-one, run-most}
 use Rattle.ledger.proofs.Lists.{sumBelow-most}
 use Rattle.entries.proofs.RowLaws.{differing-le}
 use Rattle.store.specs.declared.outcome.Outcome.{Outcome}
@@ -68,10 +69,10 @@ opening-place a short =
     rw q (else-place _ _ 800 (failed-place _ (categories a) 0 800 (omega arith)) (else-place _ _ 800 (failed-place _ (dates a) 0 800 (omega arith)) zero-le)))
     (λ q. rw q zero-le)
 
-pub opening-fits : (S M R C : List ℕ) (a : Opening) → FieldsFit (answer (openingVerdict S M R C a) accepted)
+pub opening-fits : (S M R C K : List ℕ) (a : Opening) → FieldsFit (answer (openingVerdict S M R C K a) accepted)
 unfolding openingVerdict
-opening-fits S M R C a =
-    let low : openingVerdict S M R C a .place ≤ 800 = opening-place a _ in answer-fits (openingVerdict S M R C a) accepted (omega arith) (λ e. tt)
+opening-fits S M R C K a =
+    let low : openingVerdict S M R C K a .place ≤ 800 = opening-place a _ in answer-fits (openingVerdict S M R C K a) accepted (omega arith) (λ e. tt)
 
 in-force-place : (duration C : ℕ) (category : ℕ → Category) (a : ReceptionCall) (r : Option Registration) → inForceCheck duration C category a r .place ≤ length (a .body) / 7
 unfolding inForceCheck bodyCheck
@@ -90,37 +91,39 @@ registration-fits S M R a = answer-fits (registrationVerdict S M R a) accepted (
 
 -- ---- a run moves at most every cell
 
-walk-moved : (place : Placing) (s : List ℕ) (t n : ℕ) (inherited : ℕ → ℕ) (d : ℕ) (cells : List ℕ) (m : ℕ) →
-    carryOn place s t n inherited d cells m .moved ≤ m + n * rowLength s
+walk-moved : (place : Placing) (s : List ℕ) (t n : ℕ) (inherited : ℕ → ℕ) (d : ℕ) (p : Published) (m : ℕ) →
+    carryOn place s t n inherited d p m .moved ≤ m + n * rowLength s
 unfolding carryOn
-walk-moved place s t zero inherited d cells m = omega arith
-walk-moved place s t (suc n) inherited d cells m =
+walk-moved place s t zero inherited d p m = omega arith
+walk-moved place s t (suc n) inherited d p m =
+    let cells = p .cells in
     let row : movedInRow (rowLength s) cells d inherited ≤ rowLength s = (unfold movedInRow in differing-le (rowLength s) _ _) in
     cases (follows s t cells d)
     (λ q.
     rw q
     (cases (eqb (movedInRow (rowLength s) cells d inherited) 0)
     (λ z. rw z (omega arith))
-    (λ z. rw z (omega (arith, suc-mul n (rowLength s), walk-moved place s t n (inheritedAfter (rowLength s) cells d inherited) (suc d) (place (rowLength s) d (tabulate (rowLength s) (followRow (rowLength s) cells d inherited)) cells) (m + movedInRow (rowLength s) cells d inherited))))))
-    (λ q. rw q (omega (arith, suc-mul n (rowLength s), walk-moved place s t n inherited (suc d) cells m)))
+    (λ z. rw z (omega (arith, suc-mul n (rowLength s), walk-moved place s t n (inheritedAfter (rowLength s) cells d inherited) (suc d) (place s d (tabulate (rowLength s) (followRow (rowLength s) cells d inherited)) p) (m + movedInRow (rowLength s) cells d inherited))))))
+    (λ q. rw q (omega (arith, suc-mul n (rowLength s), walk-moved place s t n inherited (suc d) p m)))
 
-ran-moved : (S M R C : List ℕ) (d : ℕ) → Ready S → Fits (ranFrom S M R C d .moved)
+ran-moved : (S M R C K : List ℕ) (d : ℕ) → Ready S → Fits (ranFrom S M R C K d .moved)
 unfolding ranFrom settled movedByRow
-ran-moved S M R C d k =
+ran-moved S M R C K d k =
     let n = datesOf S - suc d in
     let row = row-bounds S k .1 in
     let own = differing-le (rowLength S) (λ x. comparedEntry (rowAt (rowLength S) C d x)) (newRow S M R C d) in
-    let all = walk-moved putRow S (dayTypeOf S d) n (λ x. carriedEntry (newRow S M R C d x)) (suc d) (putRow (rowLength S) d (tabulate (rowLength S) (newRow S M R C d)) C) (differing (rowLength S) (λ x. comparedEntry (rowAt (rowLength S) C d x)) (newRow S M R C d)) in
+    let all = walk-moved publish S (dayTypeOf S d) n (λ x. carriedEntry (newRow S M R C d x)) (suc d) (publish S d (tabulate (rowLength S) (newRow S M R C d)) (asPublished C K)) (differing (rowLength S) (λ x. comparedEntry (rowAt (rowLength S) C d x)) (newRow S M R C d)) in
     omega (arith, all, own, row, mul-le-mul-right (rowLength S) (let t = k .dates .1 in let z : n ≤ 800 = omega arith in z), mul-le-mul-left 800 row)
 
-opened-all : (S M R C : List ℕ) (d : ℕ) → runVerdict S M R C d .number ≡ 0 → Ready S
+opened-all : (S M R C K : List ℕ) (d : ℕ) → runVerdict S M R C K d .number ≡ 0 → Ready S
 unfolding runVerdict runCheck runUnready
-opened-all S M R C d e =
+opened-all S M R C K d e =
     let all = not-false _ (check-passed _ 0 _ e .0) in
-    ready S (and-eq-true-iff (settingsReady S) _ .0 (and-eq-true-iff _ (readingsReady S R) .0 (and-eq-true-iff _ (cellsReady S C) .0 all .0) .0) .0)
+    let cells = and-eq-true-iff _ (daysReady S K) .0 all .0 in
+    ready S (and-eq-true-iff (settingsReady S) _ .0 (and-eq-true-iff _ (readingsReady S R) .0 (and-eq-true-iff _ (cellsReady S C) .0 cells .0) .0) .0)
 
-pub run-fits : (S M R C : List ℕ) (d : ℕ) → FieldsFit (answer (runVerdict S M R C d) (moved (ranFrom S M R C d .moved)))
-run-fits S M R C d = answer-fits (runVerdict S M R C d) (moved (ranFrom S M R C d .moved)) (unfold runVerdict in omega arith) (λ e. ran-moved S M R C d (opened-all S M R C d e))
+pub run-fits : (S M R C K : List ℕ) (d : ℕ) → FieldsFit (answer (runVerdict S M R C K d) (moved (ranFrom S M R C K d .moved)))
+run-fits S M R C K d = answer-fits (runVerdict S M R C K d) (moved (ranFrom S M R C K d .moved)) (unfold runVerdict in omega arith) (λ e. ran-moved S M R C K d (opened-all S M R C K d e))
 
 -- ---- reads, where entries are of 64 bits
 
@@ -134,25 +137,9 @@ letter-low D = omega arith
 letter-low E = omega arith
 letter-low N = omega arith
 
-fresh-low : (f : Flag) → isFresh f ≤ 1
-fresh-low A = omega arith
-fresh-low D = omega arith
-fresh-low E = omega arith
-fresh-low N = omega arith
-
-blank-low : (f : Flag) → isBlank f ≤ 1
-blank-low A = omega arith
-blank-low D = omega arith
-blank-low E = omega arith
-blank-low N = omega arith
-
 cond-low : (b : Bool) (x m : ℕ) → x ≤ m → cond b x 0 ≤ m
 cond-low true x m h = h
 cond-low false x m h = zero-le
-
-over-low : (isRun : ℕ → Bool) (n d m : ℕ) (f : ℕ → ℕ) → ((x : ℕ) → f x ≤ m) → overRunDates isRun n f d ≤ n * m
-unfolding overRunDates
-over-low isRun n d m f h = sumBelow-most n m _ (λ k l. cond-low (leb k d && isRun (d - k)) (f (d - k)) m (h (d - k)))
 
 annual-low : (sum days m : ℕ) → sum ≤ m → days ≤ 365 → annual sum days ≤ 2 * (m * 365) + 365
 unfolding annual average
@@ -180,10 +167,10 @@ module _ (duration periods w : ℕ) (isRun : ℕ → Bool) (cell : ℕ → ℕ �
   flags-low f h = omega (arith, sumBelow-most periods 1 f (λ k l. h k))
 
   totals-low : (d : ℕ) → FieldsFit (totalsAre (totalsOn duration periods w isRun cell d))
-  unfolding totalsOn
+  unfolding totalsOn freshAmong blanksAmong
   totals-low d =
-      let days = over-low isRun 365 d 1 (λ _. 1) (λ x. omega arith) in
-      let year : overRunDates isRun 365 (totOn duration periods w isRun cell) d ≤ 150495654016800 = omega (arith, over-low isRun 365 d 412316860320 (totOn duration periods w isRun cell) tot-low) in
+      let days = run-most isRun 365 1 (λ _. 1) d (λ x. omega arith) in
+      let year : overRunDates isRun 365 (totOn duration periods w isRun cell) d ≤ 150495654016800 = omega (arith, run-most isRun 365 412316860320 (totOn duration periods w isRun cell) d tot-low) in
       let few-days : overRunDates isRun 365 (λ _. 1) d ≤ 365 = omega arith in (
         omega (arith, tot-low d),
         (
@@ -191,20 +178,20 @@ module _ (duration periods w : ℕ) (isRun : ℕ → Bool) (cell : ℕ → ℕ �
           (
             omega (arith, peak-low d),
             (
-              omega (arith, over-low isRun 7 d 412316860320 _ tot-low),
+              omega (arith, run-most isRun 7 412316860320 _ d tot-low),
               (
-                omega (arith, over-low isRun 7 d 412316860320 _ off-low),
+                omega (arith, run-most isRun 7 412316860320 _ d off-low),
                 (
-                  omega (arith, over-low isRun 7 d 412316860320 _ peak-low),
+                  omega (arith, run-most isRun 7 412316860320 _ d peak-low),
                   (
-                    omega (arith, over-low isRun 7 d 1 (λ _. 1) (λ x. omega arith)),
+                    omega (arith, run-most isRun 7 1 (λ _. 1) d (λ x. omega arith)),
                     (
                       omega (arith, annual-low _ _ 150495654016800 year few-days),
                       (
                         omega arith,
                         (
-                          flags-low _ (λ k. fresh-low (cell d (suc k) .flag)),
-                          (flags-low _ (λ k. blank-low (cell d (suc k) .flag)), tt),
+                          flags-low _ (λ k. fresh-one (cell d (suc k) .flag)),
+                          (flags-low _ (λ k. blank-one (cell d (suc k) .flag)), tt),
                         ),
                       ),
                     ),
@@ -264,6 +251,13 @@ net-fits S C a = answer-fits (netVerdict S C a) (netIs (netFor S C a)) (omega ar
 pub fill-fits : (S C : List ℕ) (a : FillCall) → FieldsFit (answer (fillVerdict S C a) (filledAre (fillFor S C a)))
 unfolding fillVerdict
 fill-fits S C a = answer-fits (fillVerdict S C a) (filledAre (fillFor S C a)) (omega arith) (λ e. tt)
+
+-- a coverage has numbers of 16 bits, whatever the days hold
+pub coverage-fits : (S K : List ℕ) (d c : ℕ) → FieldsFit (answer (coverageVerdict S K d c) (coverageIs (coverageFor S K d c)))
+unfolding coverageVerdict coverageFor coverageOf
+coverage-fits S K d c =
+    answer-fits (coverageVerdict S K d c) (coverageIs (coverageFor S K d c)) (omega arith)
+    (λ e. (omega arith, (omega arith, (omega arith, (omega arith, (omega arith, tt))))))
 
 -- ---- what fits with some lists for results fits with any
 

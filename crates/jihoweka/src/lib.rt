@@ -3,6 +3,7 @@
 use engine::OpeningTerms;
 use fields::numbers::of_band;
 use fields::numbers::of_cell;
+use fields::numbers::of_coverage;
 use fields::numbers::of_net;
 use fields::numbers::of_outcome;
 use fields::numbers::of_run;
@@ -11,9 +12,9 @@ use fields::numbers::put_fields;
 ghost use mathlib.Core.Path.{_≡_};
 ghost use mathlib.Core.Bool.{not};
 ghost use lib.Dec.{eqb};
-ghost use Rattle.ledger.specs.Ledger.{answer, accepted, moved, totalsAre, cellIs, netIs, bandIs, filledAre, left};
+ghost use Rattle.ledger.specs.Ledger.{answer, accepted, moved, totalsAre, cellIs, netIs, bandIs, filledAre, coverageIs, left};
 ghost use Rattle.ledger.specs.Fill.{ofCategory, ofOptedOut};
-ghost use Rattle.ledger.specs.Calls.{openingVerdict, registrationVerdict, registeredMeters, receptionVerdict, receivedReadings, runVerdict, ranFrom, totalsVerdict, totalsFor, cellVerdict, cellFor, netVerdict, netFor, bandVerdict, bandFor, fillVerdict, fillFor, overwritten};
+ghost use Rattle.ledger.specs.Calls.{openingVerdict, registrationVerdict, registeredMeters, receptionVerdict, receivedReadings, runVerdict, ranFrom, totalsVerdict, totalsFor, cellVerdict, cellFor, netVerdict, netFor, bandVerdict, bandFor, fillVerdict, fillFor, coverageVerdict, coverageFor, overwritten};
 ghost use Rattle.registration.specs.Registration.{registrationCall};
 ghost use Rattle.reception.specs.Reception.{receptionCall};
 ghost use Rattle.net.specs.Asked.{netCall};
@@ -33,14 +34,15 @@ pub extern "C" fn jihoweka_open(
     meters: &mut [u64],
     readings: &mut [u64],
     cells: &mut [u64],
+    days: &mut [u64],
     duration: u64,
     meter_count: u64,
     category_records: &[u8],
     day_types: &[u8],
     fields: &mut [i64],
 ) -> u64
-    ensures answers { λ r. ⌜ Returned (now (fields .entry)) (answer (openingVerdict (now (settings .entry)) (now (meters .entry)) (now (readings .entry)) (now (cells .entry)) (record { duration = duration; meters = «meter_count»; categoryBytes = (now («category_records» .entry)); dayTypes = (now («day_types» .entry)) })) accepted) r (now (fields .exit)) ⌝ }
-    ensures parts_are { λ r. ⌜ OpeningLeaves (now (fields .entry)) (now (settings .entry)) (now (meters .entry)) (now (readings .entry)) (now (cells .entry)) (record { duration = duration; meters = «meter_count»; categoryBytes = (now («category_records» .entry)); dayTypes = (now («day_types» .entry)) }) (now (settings .exit)) (now (meters .exit)) (now (readings .exit)) (now (cells .exit)) ⌝ }
+    ensures answers { λ r. ⌜ Returned (now (fields .entry)) (answer (openingVerdict (now (settings .entry)) (now (meters .entry)) (now (readings .entry)) (now (cells .entry)) (now (days .entry)) (record { duration = duration; meters = «meter_count»; categoryBytes = (now («category_records» .entry)); dayTypes = (now («day_types» .entry)) })) accepted) r (now (fields .exit)) ⌝ }
+    ensures parts_are { λ r. ⌜ OpeningLeaves (now (fields .entry)) (now (settings .entry)) (now (meters .entry)) (now (readings .entry)) (now (cells .entry)) (now (days .entry)) (record { duration = duration; meters = «meter_count»; categoryBytes = (now («category_records» .entry)); dayTypes = (now («day_types» .entry)) }) (now (settings .exit)) (now (meters .exit)) (now (readings .exit)) (now (cells .exit)) (now (days .exit)) ⌝ }
 {
     if fields.len() < FIELDS {
         return SHORT;
@@ -50,6 +52,7 @@ pub extern "C" fn jihoweka_open(
         meters,
         readings,
         cells,
+        days,
         OpeningTerms {
             duration,
             meters: meter_count,
@@ -134,16 +137,18 @@ pub extern "C" fn jihoweka_run(
     meters: &[u64],
     readings: &[u64],
     cells: &mut [u64],
+    days: &mut [u64],
     date: u64,
     fields: &mut [i64],
 ) -> u64
-    ensures answers { λ r. ⌜ Returned (now (fields .entry)) (answer (runVerdict (now (settings .entry)) (now (meters .entry)) (now (readings .entry)) (now (cells .entry)) date) (moved (ranFrom (now (settings .entry)) (now (meters .entry)) (now (readings .entry)) (now (cells .entry)) date .moved))) r (now (fields .exit)) ⌝ }
-    ensures cells_are { λ r. ⌜ now (cells .exit) ≡ unlessShort (now (fields .entry)) (now (cells .entry)) (left (runVerdict (now (settings .entry)) (now (meters .entry)) (now (readings .entry)) (now (cells .entry)) date) (now (cells .entry)) (ranFrom (now (settings .entry)) (now (meters .entry)) (now (readings .entry)) (now (cells .entry)) date .cells)) ⌝ }
+    ensures answers { λ r. ⌜ Returned (now (fields .entry)) (answer (runVerdict (now (settings .entry)) (now (meters .entry)) (now (readings .entry)) (now (cells .entry)) (now (days .entry)) date) (moved (ranFrom (now (settings .entry)) (now (meters .entry)) (now (readings .entry)) (now (cells .entry)) (now (days .entry)) date .moved))) r (now (fields .exit)) ⌝ }
+    ensures cells_are { λ r. ⌜ now (cells .exit) ≡ unlessShort (now (fields .entry)) (now (cells .entry)) (left (runVerdict (now (settings .entry)) (now (meters .entry)) (now (readings .entry)) (now (cells .entry)) (now (days .entry)) date) (now (cells .entry)) (ranFrom (now (settings .entry)) (now (meters .entry)) (now (readings .entry)) (now (cells .entry)) (now (days .entry)) date .published .cells)) ⌝ }
+    ensures days_are { λ r. ⌜ now (days .exit) ≡ unlessShort (now (fields .entry)) (now (days .entry)) (left (runVerdict (now (settings .entry)) (now (meters .entry)) (now (readings .entry)) (now (cells .entry)) (now (days .entry)) date) (now (days .entry)) (ranFrom (now (settings .entry)) (now (meters .entry)) (now (readings .entry)) (now (cells .entry)) (now (days .entry)) date .published .days)) ⌝ }
 {
     if fields.len() < FIELDS {
         return SHORT;
     }
-    let outcome = engine::run(settings, meters, readings, cells, date);
+    let outcome = engine::run(settings, meters, readings, cells, days, date);
     put_fields(fields, of_run(outcome))
 }
 
@@ -286,4 +291,21 @@ pub extern "C" fn jihoweka_fill_opted_out(
         filled,
     );
     put_fields(fields, of_outcome(outcome))
+}
+
+#[no_mangle]
+pub extern "C" fn jihoweka_read_coverage(
+    settings: &[u8],
+    days: &[u64],
+    date: u64,
+    category: u64,
+    fields: &mut [i64],
+) -> u64
+    ensures { λ r. ⌜ Returned (now (fields .entry)) (answer (coverageVerdict (now (settings .entry)) (now (days .entry)) date category) (coverageIs (coverageFor (now (settings .entry)) (now (days .entry)) date category))) r (now (fields .exit)) ⌝ }
+{
+    if fields.len() < FIELDS {
+        return SHORT;
+    }
+    let outcome = engine::read_coverage(settings, days, date, category);
+    put_fields(fields, of_coverage(outcome))
 }

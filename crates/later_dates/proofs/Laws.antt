@@ -1,21 +1,22 @@
 -- A date's row among the cells, the walk over later dates turn by turn, and the run date before a date: each thing that the code has is brought to the definition's.
 use Prim.Native.Nat.{ℕ, suc, _+_, _*_, _-_, _≤_, _<_, zero-le}
 use mathlib.Core.Path.{_≡_, refl, sym, ap, ap₂, _∙_}
+use mathlib.Core.Logic.{_≢_}
 use mathlib.Core.Bool.{Bool, true, false, true≢false, cond}
-use mathlib.Core.List.{List, _++_, append-assoc}
+use mathlib.Core.List.{List, [], _++_, append-assoc}
 use mathlib.Core.Option.{Option, none, some}
 use native.Mathlib.Nat.{add-zero}
 use native.Mathlib.Numerals.{add-one}
 use native.Mathlib.Omega.{arith}
 use lib.Dec.{eqb}
 use lib.ListN.{length, getD, take, drop}
-use lib.Seq.{drop-drop}
+use lib.Seq.{drop-drop, drop-at, take-at, length-take-le}
 use borrow.Author.Tests.{eqb-true, eqb-false, eq-eqb, ne-eqb}
 use Rattle.ledger.specs.Method.{blank}
 use Rattle.ledger.specs.Ready.{Ready}
-use Rattle.ledger.specs.Store.{datesOf, rowLength, entryOf}
+use Rattle.ledger.specs.Store.{categoriesOf, datesOf, periodsOf, rowLength, entryOf}
 use Rattle.ledger.specs.Table.{tabulate, filling}
-use Rattle.ledger.specs.Calls.{rowAt, putRow, lastRun, inheritedFrom, differing, carriedEntry, Placing, leaveRow, follows, followedEntry, inheritedBeyond, followRow, inheritedAfter, movedInRow, carryOn}
+use Rattle.ledger.specs.Calls.{rowAt, putRow, lastRun, inheritedFrom, differing, carriedEntry, keptDays, Published, asPublished, Placing, publish, countOnly, follows, followedEntry, inheritedBeyond, followRow, inheritedAfter, movedInRow, carryOn}
 use Rattle.ledger.proofs.Walks.{put-same, carryOn-end, carryOn-pass, carryOn-stop, carryOn-go, carryOn-same}
 use Rattle.ledger.proofs.Lists.{length-tabulate, getD-tabulate, tabulate-ext, part-length}
 use Rattle.entries.proofs.RowLaws.{filling-below, part-at, differing-le, differing-ext, differing-none}
@@ -40,6 +41,23 @@ module _ (n d at w : ℕ) (cells : List ℕ) (start : at ≡ d * n) (width : w �
   pub part-is : d * n + n ≤ length cells → length (take w (drop at cells)) ≡ n
   part-is fit = rw (start, width) (part-length cells (d * n) n fit)
 
+-- what was put in a part is read back
+part-spliced : (xs ys : List ℕ) (at w : ℕ) → at ≤ length xs → length ys ≡ w → take w (drop at (spliced xs ys at w)) ≡ ys
+part-spliced xs ys at w h long =
+    ap (take w) (drop-at (take at xs) (ys ++ drop w (drop at xs)) at (length-take-le at xs h)) ∙ take-at ys (drop w (drop at xs)) w long
+
+-- the row put in its stretch, and the days kept from it
+pub published-is : (s : List ℕ) (date at w : ℕ) (new : ℕ → ℕ) (cells days ys days′ : List ℕ) → at ≡ date * rowLength s → w ≡ rowLength s →
+    date * rowLength s + rowLength s ≤ length cells → ys ≡ tabulate (rowLength s) new →
+    days′ ≡ keptDays (datesOf s) (periodsOf s) date (take w (drop at (spliced cells ys at w))) (categoriesOf s) days →
+    asPublished (spliced cells ys at w) days′ ≡ publish s date (tabulate (rowLength s) new) (asPublished cells days)
+published-is s date at w new cells days ys days′ start width fit row kept =
+    let back : take w (drop at (spliced cells ys at w)) ≡ tabulate (rowLength s) new =
+    part-spliced cells ys at w (rw start (omega (arith, fit))) (ap length row ∙ length-tabulate (rowLength s) new ∙ sym width) ∙ row in
+    ap₂ asPublished
+    (put-is (rowLength s) date at w cells start width ys ∙ ap (λ (xs : List ℕ). putRow (rowLength s) date xs cells) row)
+    (kept ∙ ap (λ (xs : List ℕ). keptDays (datesOf s) (periodsOf s) date xs (categoriesOf s) days) back)
+
 -- that lies within, by the start and width that the code has
 pub within : (n d at w : ℕ) {L : ℕ} → at ≡ d * n → w ≡ n → d * n + n ≤ L → at + w ≤ L
 within n d at w start width fit = rw (start, width) fit
@@ -56,14 +74,14 @@ module _ (n d at w : ℕ) (cells inherited : List ℕ) (start : at ≡ d * n) (w
   unfolding followRow
   followed-at k l = ap (λ (e : ℕ). followedEntry e (getD inherited k 0)) (part-row n d at w cells start width k l)
 
-  follow-gives : (ys : List ℕ) →
-      ys ≡ tabulate (length (take w (drop at cells))) (λ k. followedEntry (getD (take w (drop at cells)) k 0) (getD inherited k 0)) →
-      spliced cells ys at w ≡ putRow n d (tabulate n (followRow n cells d (λ k. getD inherited k 0))) cells
-  follow-gives ys is =
-      put-is n d at w cells start width ys
-      ∙ ap (λ (zs : List ℕ). putRow n d zs cells)
-      (is ∙ ap (λ (m : ℕ). tabulate m (λ k. followedEntry (getD (take w (drop at cells)) k 0) (getD inherited k 0))) (part-is n d at w cells start width fit)
-      ∙ tabulate-ext n _ _ followed-at)
+  module _ (ys : List ℕ) (is : ys ≡ tabulate (length (take w (drop at cells))) (λ k. followedEntry (getD (take w (drop at cells)) k 0) (getD inherited k 0))) where
+    follow-row : ys ≡ tabulate n (followRow n cells d (λ k. getD inherited k 0))
+    follow-row =
+        is ∙ ap (λ (m : ℕ). tabulate m (λ k. followedEntry (getD (take w (drop at cells)) k 0) (getD inherited k 0))) (part-is n d at w cells start width fit)
+        ∙ tabulate-ext n _ _ followed-at
+
+    follow-gives : spliced cells ys at w ≡ putRow n d (tabulate n (followRow n cells d (λ k. getD inherited k 0))) cells
+    follow-gives = put-is n d at w cells start width ys ∙ ap (λ (zs : List ℕ). putRow n d zs cells) follow-row
 
   follow-inherited : (inherited′ : List ℕ) →
       inherited′ ≡ filling (length (take w (drop at cells))) (λ k. inheritedBeyond (getD (take w (drop at cells)) k 0) (getD inherited k 0)) inherited →
@@ -99,51 +117,48 @@ moved-le : (n d : ℕ) (cells : List ℕ) (inherited : ℕ → ℕ) → movedInR
 unfolding movedInRow
 moved-le n d cells inherited = differing-le n (rowAt n cells d) (followRow n cells d inherited)
 
-left-as-is : (n d : ℕ) (row cells : List ℕ) → cells ≡ leaveRow n d row cells
-unfolding leaveRow
-left-as-is n d row cells = refl
-
 -- ---- a turn of the walk over later dates, for a run and for a count
 
-module _ (place : Placing) (s : List ℕ) (t d : ℕ) (inherited cells : List ℕ) (in-range : d < datesOf s) where
+module _ (place : Placing) (s : List ℕ) (t d : ℕ) (inherited : List ℕ) (p : Published) (in-range : d < datesOf s) where
   one : datesOf s - d ≡ suc (datesOf s - suc d)
   one = omega arith
 
   -- a date that does not follow
-  pub step-skip : follows s t cells d ≡ false → Stepped place s t d inherited cells inherited cells 0 false
+  pub step-skip : follows s t (p .cells) d ≡ false → Stepped place s t d inherited p inherited p 0 false
   step-skip test =
       record {
         stops = λ e m. absurd (true≢false (sym e));
-        goes = λ e m. rw (add-one d, one, add-zero m) (carryOn-pass place s t (datesOf s - suc d) (λ k. getD inherited k 0) d cells m test);
+        goes = λ e m. rw (add-one d, one, add-zero m) (carryOn-pass place s t (datesOf s - suc d) (λ k. getD inherited k 0) d p m test);
         few = zero-le;
       }
 
-  -- one that does
-  step-follow : follows s t cells d ≡ true → rowLength s ≤ 6144 → (inherited′ cells′ : List ℕ) (more : ℕ) →
-      cells′ ≡ place (rowLength s) d (tabulate (rowLength s) (followRow (rowLength s) cells d (λ k. getD inherited k 0))) cells →
-      (movedInRow (rowLength s) cells d (λ k. getD inherited k 0) ≡ 0 → place (rowLength s) d (tabulate (rowLength s) (followRow (rowLength s) cells d (λ k. getD inherited k 0))) cells ≡ cells) →
-      ((k : ℕ) → k < rowLength s → getD inherited′ k 0 ≡ inheritedAfter (rowLength s) cells d (λ j. getD inherited j 0) k) →
-      more ≡ movedInRow (rowLength s) cells d (λ k. getD inherited k 0) → Stepped place s t d inherited cells inherited′ cells′ more (eqb more 0)
-  step-follow test small inherited′ cells′ more placed still after is =
+  -- one that does: where nothing moves all stays, else its row is placed
+  step-follow : follows s t (p .cells) d ≡ true → rowLength s ≤ 6144 → (inherited′ : List ℕ) (p′ : Published) (more : ℕ) →
+      (more ≡ 0 → p ≡ p′) →
+      (more ≢ 0 → place s d (tabulate (rowLength s) (followRow (rowLength s) (p .cells) d (λ k. getD inherited k 0))) p ≡ p′) →
+      ((k : ℕ) → k < rowLength s → getD inherited′ k 0 ≡ inheritedAfter (rowLength s) (p .cells) d (λ j. getD inherited j 0) k) →
+      more ≡ movedInRow (rowLength s) (p .cells) d (λ k. getD inherited k 0) → Stepped place s t d inherited p inherited′ p′ more (eqb more 0)
+  step-follow test small inherited′ p′ more stays placed after is =
       record {
         stops =
             λ e m.
-            let none-moved : movedInRow (rowLength s) cells d (λ k. getD inherited k 0) ≡ 0 = sym is ∙ eqb-true more 0 e in
-            rw one (carryOn-stop place s t (datesOf s - suc d) (λ k. getD inherited k 0) d cells m test (eq-eqb _ _ none-moved))
-            ∙ ap (λ (xs : List ℕ). record { cells = xs; moved = m }) (sym (placed ∙ still none-moved));
+            let none-moved : more ≡ 0 = eqb-true more 0 e in
+            rw one (carryOn-stop place s t (datesOf s - suc d) (λ k. getD inherited k 0) d p m test (eq-eqb _ _ (sym is ∙ none-moved)))
+            ∙ ap (λ (x : Published). record { published = x; moved = m }) (stays none-moved);
         goes =
             λ e m.
+            let some-moved : more ≢ 0 = eqb-false more 0 e in
             rw (add-one d, one)
-            (carryOn-go place s t (datesOf s - suc d) (λ k. getD inherited k 0) d cells m test (ne-eqb _ _ (λ z. eqb-false more 0 e (is ∙ z)))
-            ∙ carryOn-same place s t (datesOf s - suc d) (inheritedAfter (rowLength s) cells d (λ k. getD inherited k 0)) (λ k. getD inherited′ k 0) (suc d) _ _ (λ j l. sym (after j l))
-            ∙ ap₂ (λ (xs : List ℕ) (x : ℕ). carryOn place s t (datesOf s - suc d) (λ k. getD inherited′ k 0) (suc d) xs (m + x)) (sym placed) (sym is));
-        few = rw is (omega (arith, moved-le (rowLength s) d cells (λ k. getD inherited k 0)));
+            (carryOn-go place s t (datesOf s - suc d) (λ k. getD inherited k 0) d p m test (ne-eqb _ _ (λ z. some-moved (is ∙ z)))
+            ∙ carryOn-same place s t (datesOf s - suc d) (inheritedAfter (rowLength s) (p .cells) d (λ k. getD inherited k 0)) (λ k. getD inherited′ k 0) (suc d) _ _ (λ j l. sym (after j l))
+            ∙ ap₂ (λ (x : Published) (n : ℕ). carryOn place s t (datesOf s - suc d) (λ k. getD inherited′ k 0) (suc d) x (m + n)) (placed some-moved) (sym is));
+        few = rw is (omega (arith, moved-le (rowLength s) d (p .cells) (λ k. getD inherited k 0)));
       }
 
 -- as the code answers it
-pub stepped-as : {place : Placing} {s : List ℕ} {t d : ℕ} {inherited cells inherited′ cells′ : List ℕ} {more more′ : ℕ} {stop stop′ : Bool} →
-    Stepped place s t d inherited cells inherited′ cells′ more stop → more′ ≡ more → stop′ ≡ stop →
-    Stepped place s t d inherited cells inherited′ cells′ more′ stop′
+pub stepped-as : {place : Placing} {s : List ℕ} {t d : ℕ} {inherited inherited′ : List ℕ} {p p′ : Published} {more more′ : ℕ} {stop stop′ : Bool} →
+    Stepped place s t d inherited p inherited′ p′ more stop → more′ ≡ more → stop′ ≡ stop →
+    Stepped place s t d inherited p inherited′ p′ more′ stop′
 stepped-as step e f = rw (e, f) step
 
 -- its part of the cells as the loops over a row leave it: written, or only counted
@@ -152,47 +167,60 @@ module _ (s : List ℕ) (t d : ℕ) (inherited cells : List ℕ) (in-range : d <
     (inherited′ : List ℕ) (more : ℕ)
     (after : inherited′ ≡ filling (length (take w (drop at cells))) (λ k. inheritedBeyond (getD (take w (drop at cells)) k 0) (getD inherited k 0)) inherited)
     (is : more ≡ differing (length (take w (drop at cells))) (λ k. getD (take w (drop at cells)) k 0) (λ k. followedEntry (getD (take w (drop at cells)) k 0) (getD inherited k 0))) where
-  pub step-written : (ys : List ℕ) → ys ≡ tabulate (length (take w (drop at cells))) (λ k. followedEntry (getD (take w (drop at cells)) k 0) (getD inherited k 0)) →
-      Stepped putRow s t d inherited cells inherited′ (spliced cells ys at w) more (eqb more 0)
-  step-written ys row =
-      step-follow putRow s t d inherited cells in-range test small inherited′ (spliced cells ys at w) more
-      (follow-gives (rowLength s) d at w cells inherited start width fit ys row)
-      (λ z. put-unmoved (rowLength s) d cells (λ k. getD inherited k 0) z fit)
-      (follow-inherited (rowLength s) d at w cells inherited start width fit inherited′ after)
-      (follow-moved (rowLength s) d at w cells inherited start width fit more is)
+  inherits : (k : ℕ) → k < rowLength s → getD inherited′ k 0 ≡ inheritedAfter (rowLength s) cells d (λ j. getD inherited j 0) k
+  inherits = follow-inherited (rowLength s) d at w cells inherited start width fit inherited′ after
 
-  pub step-counted : Stepped leaveRow s t d inherited cells inherited′ cells more (eqb more 0)
-  step-counted =
-      step-follow leaveRow s t d inherited cells in-range test small inherited′ cells more
-      (left-as-is (rowLength s) d _ cells)
-      (λ z. sym (left-as-is (rowLength s) d _ cells))
-      (follow-inherited (rowLength s) d at w cells inherited start width fit inherited′ after)
-      (follow-moved (rowLength s) d at w cells inherited start width fit more is)
+  moves : more ≡ movedInRow (rowLength s) cells d (λ k. getD inherited k 0)
+  moves = follow-moved (rowLength s) d at w cells inherited start width fit more is
+
+  module _ (days ys : List ℕ) (row : ys ≡ tabulate (length (take w (drop at cells))) (λ k. followedEntry (getD (take w (drop at cells)) k 0) (getD inherited k 0))) where
+    written : spliced cells ys at w ≡ putRow (rowLength s) d (tabulate (rowLength s) (followRow (rowLength s) cells d (λ k. getD inherited k 0))) cells
+    written = follow-gives (rowLength s) d at w cells inherited start width fit ys row
+
+    -- nothing moved: the row is as it was, and the days stay
+    pub step-still : more ≡ 0 → Stepped publish s t d inherited (asPublished cells days) inherited′ (asPublished (spliced cells ys at w) days) more (eqb more 0)
+    step-still none-moved =
+        step-follow publish s t d inherited (asPublished cells days) in-range test small inherited′ (asPublished (spliced cells ys at w) days) more
+        (λ z. ap (λ (xs : List ℕ). asPublished xs days) (sym (written ∙ put-unmoved (rowLength s) d cells (λ k. getD inherited k 0) (sym moves ∙ z) fit)))
+        (λ z. absurd (z none-moved))
+        inherits moves
+
+    -- else the days are kept from the row that was written
+    pub step-written : more ≢ 0 → (days′ : List ℕ) → days′ ≡ keptDays (datesOf s) (periodsOf s) d (take w (drop at (spliced cells ys at w))) (categoriesOf s) days →
+        Stepped publish s t d inherited (asPublished cells days) inherited′ (asPublished (spliced cells ys at w) days′) more (eqb more 0)
+    step-written some-moved days′ kept =
+        step-follow publish s t d inherited (asPublished cells days) in-range test small inherited′ (asPublished (spliced cells ys at w) days′) more
+        (λ z. absurd (some-moved z))
+        (λ z. sym (published-is s d at w (followRow (rowLength s) cells d (λ k. getD inherited k 0)) cells days ys days′ start width fit (follow-row (rowLength s) d at w cells inherited start width fit ys row) kept))
+        inherits moves
+
+  pub step-counted : Stepped countOnly s t d inherited (asPublished cells []) inherited′ (asPublished cells []) more (eqb more 0)
+  step-counted = step-follow countOnly s t d inherited (asPublished cells []) in-range test small inherited′ (asPublished cells []) more (λ z. refl) (λ z. refl) inherits moves
 
 -- the walk has come to date d: what is left of it gives what the whole gives
-pub record Walked (place : Placing) (s : List ℕ) (t first moved : ℕ) (inherited₀ cells₀ inherited cells : List ℕ) (total d : ℕ) : Type 0 where
+pub record Walked (place : Placing) (s : List ℕ) (t first moved : ℕ) (inherited₀ : List ℕ) (p₀ : Published) (inherited : List ℕ) (p : Published) (total d : ℕ) : Type 0 where
   pub reached : d ≤ datesOf s
   pub few : total ≤ 6144 + 6144 * d
   pub same :
-      carryOn place s t (datesOf s - d) (λ k. getD inherited k 0) d cells total
-      ≡ carryOn place s t (datesOf s - first) (λ k. getD inherited₀ k 0) first cells₀ moved
+      carryOn place s t (datesOf s - d) (λ k. getD inherited k 0) d p total
+      ≡ carryOn place s t (datesOf s - first) (λ k. getD inherited₀ k 0) first p₀ moved
 
-pub walk-start : (place : Placing) (s : List ℕ) (t first moved : ℕ) (inherited cells : List ℕ) → first ≤ datesOf s → moved ≤ 6144 →
-    Walked place s t first moved inherited cells inherited cells moved first
-walk-start place s t first moved inherited cells h few = record { reached = h; few = omega arith; same = refl }
+pub walk-start : (place : Placing) (s : List ℕ) (t first moved : ℕ) (inherited : List ℕ) (p : Published) → first ≤ datesOf s → moved ≤ 6144 →
+    Walked place s t first moved inherited p inherited p moved first
+walk-start place s t first moved inherited p h few = record { reached = h; few = omega arith; same = refl }
 
-module _ (place : Placing) (s : List ℕ) (t first moved : ℕ) (inherited₀ cells₀ inherited cells : List ℕ) (total d : ℕ)
-    (so-far : Walked place s t first moved inherited₀ cells₀ inherited cells total d) where
-  pub walk-end : datesOf s ≤ d → record { cells = cells; moved = total } ≡ carryOn place s t (datesOf s - first) (λ k. getD inherited₀ k 0) first cells₀ moved
+module _ (place : Placing) (s : List ℕ) (t first moved : ℕ) (inherited₀ : List ℕ) (p₀ : Published) (inherited : List ℕ) (p : Published) (total d : ℕ)
+    (so-far : Walked place s t first moved inherited₀ p₀ inherited p total d) where
+  pub walk-end : datesOf s ≤ d → record { published = p; moved = total } ≡ carryOn place s t (datesOf s - first) (λ k. getD inherited₀ k 0) first p₀ moved
   walk-end h =
       let none-left : datesOf s - d ≡ 0 = omega arith in
-      sym (carryOn-end place s t 0 (λ k. getD inherited k 0) d cells total) ∙ rw none-left at (so-far .same)
+      sym (carryOn-end place s t 0 (λ k. getD inherited k 0) d p total) ∙ rw none-left at (so-far .same)
 
-  module _ (in-range : d < datesOf s) {inherited′ cells′ : List ℕ} {more : ℕ} {stop : Bool} (step : Stepped place s t d inherited cells inherited′ cells′ more stop) where
-    pub walk-stop : stop ≡ true → record { cells = cells′; moved = total } ≡ carryOn place s t (datesOf s - first) (λ k. getD inherited₀ k 0) first cells₀ moved
+  module _ (in-range : d < datesOf s) {inherited′ : List ℕ} {p′ : Published} {more : ℕ} {stop : Bool} (step : Stepped place s t d inherited p inherited′ p′ more stop) where
+    pub walk-stop : stop ≡ true → record { published = p′; moved = total } ≡ carryOn place s t (datesOf s - first) (λ k. getD inherited₀ k 0) first p₀ moved
     walk-stop e = sym (step .stops e total) ∙ so-far .same
 
-    pub walk-next : stop ≡ false → Walked place s t first moved inherited₀ cells₀ inherited′ cells′ (total + more) (d + 1)
+    pub walk-next : stop ≡ false → Walked place s t first moved inherited₀ p₀ inherited′ p′ (total + more) (d + 1)
     walk-next e =
         record {
           reached = omega arith;

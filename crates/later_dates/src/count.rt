@@ -9,15 +9,16 @@ use store::rows::row_length;
 use store::rows::row_start;
 ghost use mathlib.Core.Path.{_≡_};
 ghost use mathlib.Core.Bool.{true};
+ghost use mathlib.Core.List.{[]};
 ghost use Prim.Native.Nat.{_-_, _<_, _≤_};
 ghost use lib.ListN.{length, getD};
 ghost use Rattle.ledger.specs.Store.{settingsReady, cellsReady, datesOf, rowLength};
-ghost use Rattle.ledger.specs.Calls.{leaveRow, carryOn};
+ghost use Rattle.ledger.specs.Calls.{countOnly, asPublished, carryOn};
 ghost use Rattle.later_dates.specs.Walk.{Stepped};
 
 fn count_step(settings: &[u8], cells: &[u64], day: u64, date: u64, inherited: &mut [u64]) -> Step
     requires { ⌜ (settingsReady (now settings) ≡ true) × (cellsReady (now settings) (now cells) ≡ true) × (date < datesOf (now settings)) × (rowLength (now settings) ≤ length (now inherited)) ⌝ }
-    ensures { λ r. ⌜ Stepped leaveRow (now (settings .entry)) day date (now (inherited .entry)) (now (cells .entry)) (now (inherited .exit)) (now (cells .entry)) (r .moved) (r .stop) ⌝ }
+    ensures { λ r. ⌜ Stepped countOnly (now (settings .entry)) day date (now (inherited .entry)) (asPublished (now (cells .entry)) []) (now (inherited .exit)) (asPublished (now (cells .entry)) []) (r .moved) (r .stop) ⌝ }
 {
     if !is_predecessor(settings, cells, day, date) {
         return passed_over();
@@ -39,7 +40,7 @@ pub fn count_later(
 ) -> u64
     requires { ⌜ (settingsReady (now settings) ≡ true) × (cellsReady (now settings) (now cells) ≡ true) ⌝ }
     requires { ⌜ (first ≤ datesOf (now settings)) × (moved ≤ 6144) × (rowLength (now settings) ≤ length (now inherited)) ⌝ }
-    ensures { λ r. ⌜ r ≡ (carryOn leaveRow (now (settings .entry)) day (datesOf (now (settings .entry)) - first) (λ k. getD (now (inherited .entry)) k 0) first (now (cells .entry)) moved) .moved ⌝ }
+    ensures { λ r. ⌜ r ≡ (carryOn countOnly (now (settings .entry)) day (datesOf (now (settings .entry)) - first) (λ k. getD (now (inherited .entry)) k 0) first (asPublished (now (cells .entry)) []) moved) .moved ⌝ }
 {
     let dates = date_count(settings);
     let mut total = moved;

@@ -13,21 +13,21 @@ use Rattle.metering.specs.Range.{between}
 use Rattle.ledger.specs.Checks.{RegistrationCall, ReceptionCall, Verdict, verdict, orElse, firstNumber, callNumber, registrationCheck, receptionCheck, runCheck, rangeCheck, readCheck, totalsInRange, cellInRange, NetCall, listsShort, mayNet, netCheck, bandCheck, fillCheck}
 use Rattle.ledger.specs.Band.{BandCall}
 use Rattle.ledger.specs.Fill.{FillCall, mayFill}
-use Rattle.ledger.specs.Sizes.{metersLength, cellsLength}
-use Rattle.ledger.specs.Ledger.{Opening, categories, dates, periods, Meter, category, Ledger, start, Call, register, receive, run, readTotals, readCell, readNet, searchBand, fillHole, Answer, moved, totalsAre, cellIs, netIs, bandIs, filledAre, answer, left, Lengths, settingsShort, metersShort, cellsShort, anyShort, ledgerRegistrationCheck, afterRegistration, ledgerReceptionCheck, afterReception, cellAt, isRun, ledgerRunCheck, afterRun, movedBetween, ledgerTotalsCheck, ledgerCellCheck, totalsAt, ledgerNetCheck, netAt, ledgerBandCheck, bandAt, shapeAt, weightAt, ledgerFillCheck, fillAt, ledgerAnswer, ledgerAfter}
-use Rattle.ledger.specs.Store.{rowLength, datesOf, categoriesOf, periodsOf, isRunAt, categoryOf}
-use Rattle.ledger.specs.Calls.{metersUnready, cellsUnready, openingVerdict, openedMeters, openedReadings, openedCells, registrationVerdict, registeredMeters, receptionVerdict, receivedReadings, runVerdict, ranFrom, totalsVerdict, totalsFor, cellVerdict, cellFor, netVerdict, netFor, bandVerdict, bandFor, shapeFor, weightFor, fillVerdict, fillFor}
-use Rattle.ledger.specs.Engine.{Parts, callAnswer, withMeters, withReadings, withCells, leaves, openedParts, Item, cut, restored, partsAfter, answersFrom, storeAnswers, cutLengths, ledgerAnswers, Every, lengthsOf, AreBytes, BodyOfBytes, BodiesOfBytes, Agreement}
+use Rattle.ledger.specs.Sizes.{metersLength, cellsLength, daysLength}
+use Rattle.ledger.specs.Ledger.{Opening, categories, dates, periods, Meter, category, Ledger, start, Call, register, receive, run, readTotals, readCell, readNet, searchBand, fillHole, readCoverage, Answer, moved, totalsAre, cellIs, netIs, bandIs, filledAre, coverageIs, answer, left, Lengths, settingsShort, metersShort, cellsShort, daysShort, anyShort, ledgerRegistrationCheck, afterRegistration, ledgerReceptionCheck, afterReception, cellAt, isRun, ledgerRunCheck, afterRun, movedBetween, ledgerTotalsCheck, ledgerCellCheck, totalsAt, ledgerNetCheck, netAt, ledgerBandCheck, bandAt, shapeAt, weightAt, ledgerFillCheck, fillAt, ledgerCoverageCheck, coverageAt, ledgerAnswer, ledgerAfter}
+use Rattle.ledger.specs.Store.{rowLength, datesOf, categoriesOf, periodsOf, isRunAt, categoryOf, isRunDay}
+use Rattle.ledger.specs.Calls.{metersUnready, cellsUnready, daysUnready, openingVerdict, openedMeters, openedReadings, openedCells, openedDays, registrationVerdict, registeredMeters, receptionVerdict, receivedReadings, runVerdict, ranFrom, totalsVerdict, totalsFor, cellVerdict, cellFor, netVerdict, netFor, bandVerdict, bandFor, shapeFor, weightFor, fillVerdict, fillFor, coverageVerdict, coverageFor}
+use Rattle.ledger.specs.Engine.{Parts, callAnswer, withMeters, withReadings, withPublished, leaves, openedParts, Item, cut, restored, partsAfter, answersFrom, storeAnswers, cutLengths, ledgerAnswers, Every, lengthsOf, AreBytes, BodyOfBytes, BodiesOfBytes, Agreement}
 use Rattle.ledger.proofs.Choices.{check-passed, neither, both-passed, call-passed}
 use Rattle.ledger.proofs.Verdicts.{left-of, passed-else}
-use Rattle.ledger.proofs.Relation.{SettingsAgree, MetersAgree, ReadingsAgree, CellsAgree, SoundMeters, Sound}
-use Rattle.ledger.proofs.Settings.{settings-cut, meters-unready, cells-unready, run-unready}
-use Rattle.ledger.proofs.Parts.{cut-agrees, back-agrees, meters-rest, readings-rest, cells-rest, cut-lengths, restored-cut, restored-lengths}
-use Rattle.ledger.proofs.Runs.{after-sound, run-agrees, run-length, run-moved}
+use Rattle.ledger.proofs.Relation.{SettingsAgree, MetersAgree, ReadingsAgree, CellsAgree, DaysAgree, SoundMeters, Sound}
+use Rattle.ledger.proofs.Settings.{settings-cut, meters-unready, cells-unready, days-unready, run-unready}
+use Rattle.ledger.proofs.Parts.{cut-agrees, back-agrees, meters-rest, readings-rest, cells-rest, days-rest, cut-lengths, restored-cut, restored-lengths}
+use Rattle.ledger.proofs.Runs.{after-sound, run-agrees, run-length, run-moved, run-days, run-days-length}
 use Rattle.ledger.proofs.Register.{registration-check, registration-accepted, registration-agrees}
 use Rattle.ledger.proofs.Receive.{reception-check, reception-accepted, reception-agrees}
 use Rattle.ledger.proofs.Open as open-step
-use Rattle.ledger.proofs.Answers.{run-is, cell-is, totals-are, may-net-is, net-is, band-is, shape-is, may-fill-is, fill-is}
+use Rattle.ledger.proofs.Answers.{run-is, cell-is, totals-are, may-net-is, net-is, band-is, shape-is, may-fill-is, fill-is, run-day-is, coverage-is}
 
 -- ---- the relation
 
@@ -37,6 +37,7 @@ pub record Agrees (whole : Lengths) (p : Parts) (l : Ledger) : Type 0 where
   meters : MetersAgree (l .opening) (p .meters) (l .known)
   readings : ReadingsAgree (l .opening) (p .readings) (l .known)
   cells : CellsAgree (l .opening) (p .cells) (l .pictures)
+  days : DaysAgree (l .opening) (p .days) (l .pictures)
   pub lengths : lengthsOf p ≡ whole
 
 -- answers whose values are equal where the call is accepted
@@ -67,6 +68,9 @@ module _ (whole : Lengths) (p : Parts) (l : Ledger) (agrees : Agrees whole p l) 
   abbrev C : List ℕ
   C = take (n .cells) (p .cells)
 
+  abbrev D : List ℕ
+  D = take (n .days) (p .days)
+
   abbrev lent : Lengths
   lent = lengthsOf (cut n p)
 
@@ -78,12 +82,18 @@ module _ (whole : Lengths) (p : Parts) (l : Ledger) (agrees : Agrees whole p l) 
   abbrev CellsEnough : Type 0
   CellsEnough = SettingsAgree o S × CellsAgree o C (l .pictures)
 
+  abbrev DaysEnough : Type 0
+  DaysEnough = SettingsAgree o S × DaysAgree o D (l .pictures)
+
   settings-enough : settingsShort o lent ≡ false → SettingsAgree o S
   unfolding settingsShort
   settings-enough e = settings-cut o (p .settings) (n .settings) (agrees .settings) (ltb-false _ _ e)
 
   cells-long : ltb (length C) (cellsLength (categories o) (dates o) (periods o)) ≡ false → CellsAgree o C (l .pictures)
   cells-long e = cut-agrees (cells-rest o (l .pictures)) (n .cells) (p .cells) (agrees .cells) (ltb-false _ _ e)
+
+  days-long : ltb (length D) (daysLength (categories o) (dates o)) ≡ false → DaysAgree o D (l .pictures)
+  days-long e = cut-agrees (days-rest o (l .pictures)) (n .days) (p .days) (agrees .days) (ltb-false _ _ e)
 
   enough-meters : metersShort o lent ≡ false → MetersEnough
   unfolding metersShort
@@ -99,9 +109,16 @@ module _ (whole : Lengths) (p : Parts) (l : Ledger) (agrees : Agrees whole p l) 
   unfolding cellsShort
   enough-cells e = let q = neither _ _ e in (settings-enough (q .0), cells-long (q .1))
 
-  enough-all : anyShort o lent ≡ false → MetersEnough × CellsAgree o C (l .pictures)
+  enough-days : daysShort o lent ≡ false → DaysEnough
+  unfolding daysShort
+  enough-days e = let q = neither _ _ e in (settings-enough (q .0), days-long (q .1))
+
+  enough-all : anyShort o lent ≡ false → MetersEnough × CellsAgree o C (l .pictures) × DaysAgree o D (l .pictures)
   unfolding anyShort
-  enough-all e = let q = neither _ _ e in (enough-meters (q .0), cells-long (q .1))
+  enough-all e =
+      let q = neither _ _ e in
+      let w = neither _ _ (q .0) in
+      (enough-meters (w .0), cells-long (w .1), days-long (q .1))
 
   -- ---- a call that answers alike and leaves what agrees
 
@@ -119,11 +136,11 @@ module _ (whole : Lengths) (p : Parts) (l : Ledger) (agrees : Agrees whole p l) 
   -- ---- registration and reception
 
   meters-short : metersUnready S M R ≡ metersShort o lent
-  meters-short = meters-unready o (p .settings) (n .settings) (agrees .sound .valid) (agrees .settings) M R (length C)
+  meters-short = meters-unready o (p .settings) (n .settings) (agrees .sound .valid) (agrees .settings) M R (length C) (length D)
 
   -- both write what is known of the meters
   known-agrees : (known : List Meter) (m r : List ℕ) → MetersAgree o m known → ReadingsAgree o r known → SoundMeters (categories o) known → length known ≤ o .meters → length m ≡ length M → length r ≡ length R →
-      Agrees whole (restored n p (record { settings = S; meters = m; readings = r; cells = C })) (record { opening = o; known = known; pictures = l .pictures })
+      Agrees whole (restored n p (record { settings = S; meters = m; readings = r; cells = C; days = D })) (record { opening = o; known = known; pictures = l .pictures })
   unfolding restored
   known-agrees known m r meters readings sound few m-long r-long =
       record {
@@ -132,7 +149,8 @@ module _ (whole : Lengths) (p : Parts) (l : Ledger) (agrees : Agrees whole p l) 
         meters = back-agrees (meters-rest o known) (n .meters) (p .meters) m meters;
         readings = back-agrees (readings-rest o known) (n .readings) (p .readings) r readings;
         cells = rw (take-append-drop (n .cells) (p .cells)) (agrees .cells);
-        lengths = restored-lengths n p (record { settings = S; meters = m; readings = r; cells = C }) (rw (m-long, r-long)) ∙ agrees .lengths;
+        days = rw (take-append-drop (n .days) (p .days)) (agrees .days);
+        lengths = restored-lengths n p (record { settings = S; meters = m; readings = r; cells = C; days = D }) (rw (m-long, r-long)) ∙ agrees .lengths;
       }
 
   registration-verdict : (a : RegistrationCall) → registrationVerdict S M R a ≡ ledgerRegistrationCheck l lent a
@@ -177,38 +195,39 @@ module _ (whole : Lengths) (p : Parts) (l : Ledger) (agrees : Agrees whole p l) 
 
   -- ---- run
 
-  run-verdict : (d : ℕ) → runVerdict S M R C d ≡ ledgerRunCheck l lent d
+  run-verdict : (d : ℕ) → runVerdict S M R C D d ≡ ledgerRunCheck l lent d
   unfolding runVerdict ledgerRunCheck
   run-verdict d =
-      rw (run-unready o (p .settings) (n .settings) (agrees .sound .valid) (agrees .settings) M R C)
+      rw (run-unready o (p .settings) (n .settings) (agrees .sound .valid) (agrees .settings) M R C D)
       (cases (anyShort o lent)
       (λ q. rw q (unfold runCheck in refl))
       (λ q. rw (q, enough-all q .0 .0 .dates-are)))
 
   module _ (d : ℕ) (passed : ledgerRunCheck l lent d .number ≡ 0) where
-    run-ok : (MetersEnough × CellsAgree o C (l .pictures)) × (d < dates o)
+    run-ok : (MetersEnough × CellsAgree o C (l .pictures) × DaysAgree o D (l .pictures)) × (d < dates o)
     unfolding ledgerRunCheck runCheck
     run-ok =
         let a = check-passed (anyShort o lent) 0 _ passed in
         (enough-all (a .0), leb-false (dates o) d (check-passed (leb (dates o) d) 8 0 (a .1) .0))
 
-    run-taken : Agrees whole (restored n p (withCells (ranFrom S M R C d .cells) (cut n p))) (afterRun l d)
+    run-taken : Agrees whole (restored n p (withPublished (ranFrom S M R C D d .published) (cut n p))) (afterRun l d)
     unfolding afterRun restored
     run-taken =
-        let (((s, m, r), c), h) = run-ok in
+        let (((s, m, r), c, k), h) = run-ok in
         record {
-          sound = record { valid = agrees .sound .valid; meters = agrees .sound .meters; few = agrees .sound .few; pictures-are = after-sound l S M R C (agrees .sound) s m r c d h };
+          sound = record { valid = agrees .sound .valid; meters = agrees .sound .meters; few = agrees .sound .few; pictures-are = after-sound l S M R C D (agrees .sound) s m r c k d h };
           settings = rw (take-append-drop (n .settings) (p .settings)) (agrees .settings);
           meters = rw (take-append-drop (n .meters) (p .meters)) (agrees .meters);
           readings = rw (take-append-drop (n .readings) (p .readings)) (agrees .readings);
-          cells = back-agrees (cells-rest o _) (n .cells) (p .cells) _ (run-agrees l S M R C (agrees .sound) s m r c d h);
-          lengths = restored-lengths n p (withCells (ranFrom S M R C d .cells) (cut n p)) (rw (run-length l S M R C (agrees .sound) s m r c d h)) ∙ agrees .lengths;
+          cells = back-agrees (cells-rest o _) (n .cells) (p .cells) _ (run-agrees l S M R C D (agrees .sound) s m r c k d h);
+          days = back-agrees (days-rest o _) (n .days) (p .days) _ (run-days l S M R C D (agrees .sound) s m r c k d h);
+          lengths = restored-lengths n p (withPublished (ranFrom S M R C D d .published) (cut n p)) (rw (run-length l S M R C D (agrees .sound) s m r c k d h, run-days-length l S M R C D (agrees .sound) s m r c k d h)) ∙ agrees .lengths;
         }
 
     -- the number it reports
-    run-reports : ranFrom S M R C d .moved ≡ movedBetween o (cellAt l) (cellAt (afterRun l d))
+    run-reports : ranFrom S M R C D d .moved ≡ movedBetween o (cellAt l) (cellAt (afterRun l d))
     unfolding afterRun cellAt
-    run-reports = let (((s, m, r), c), h) = run-ok in run-moved l S M R C (agrees .sound) s m r c d h
+    run-reports = let (((s, m, r), c, k), h) = run-ok in run-moved l S M R C D (agrees .sound) s m r c k d h
 
   run-step : (d : ℕ) → Step (run d)
   unfolding callAnswer leaves ledgerAnswer ledgerAfter
@@ -221,52 +240,61 @@ module _ (whole : Lengths) (p : Parts) (l : Ledger) (agrees : Agrees whole p l) 
   -- ---- reads
 
   cells-short : cellsUnready S C ≡ cellsShort o lent
-  cells-short = cells-unready o (p .settings) (n .settings) (agrees .sound .valid) (agrees .settings) C (length M) (length R)
+  cells-short = cells-unready o (p .settings) (n .settings) (agrees .sound .valid) (agrees .settings) C (length M) (length R) (length D)
 
-  -- 1, 9 and 15; what follows looks at a date that there is, and at a category or period in range
-  range-check : (short : Bool) → (short ≡ false → cellsShort o lent ≡ false) → (d : ℕ) (in-store in-ledger : Bool) → (SettingsAgree o S → in-store ≡ in-ledger) →
-      (x y : ℕ) → (CellsEnough → d < dates o → in-ledger ≡ true → x ≡ y) → rangeCheck short (datesOf S) d in-store x ≡ rangeCheck short (dates o) d in-ledger y
-  range-check short long d a b h x y same =
-      cases short
-      (λ q. rw q)
-      (λ q.
-      let e = enough-cells (long q) in
-      rw (q, e .0 .dates-are, h (e .0))
-      (cases (leb (dates o) d)
-      (λ w. rw w)
-      (λ w. cases b (λ v. rw (w, v, same e (leb-false (dates o) d w) v)) (λ v. rw (w, v)))))
-
-  range-ok : (short : Bool) → (short ≡ false → cellsShort o lent ≡ false) → (d : ℕ) (in-range : Bool) (x : ℕ) → rangeCheck short (dates o) d in-range x ≡ 0 →
-      CellsEnough × (d < dates o) × (in-range ≡ true) × (x ≡ 0)
-  range-ok short long d b x e =
-      let p1 = check-passed short 0 _ e in
-      let p9 = check-passed (leb (dates o) d) 8 _ (p1 .1) in
-      let p15 = check-passed (not b) 14 _ (p9 .1) in
-      (enough-cells (long (p1 .0)), leb-false (dates o) d (p9 .0), not-false b (p15 .0), p15 .1)
-
-  -- 14
-  read-check : (d : ℕ) (in-store in-ledger : Bool) → (SettingsAgree o S → in-store ≡ in-ledger) →
-      readCheck (cellsShort o lent) (datesOf S) d in-store (isRunAt (rowLength S) C d) ≡ readCheck (cellsShort o lent) (dates o) d in-ledger (isRun l d)
-  unfolding readCheck
-  read-check d a b h = range-check (cellsShort o lent) (λ q. q) d a b h _ _ (λ e date range. rw (run-is l S C (e .0) (e .1) (agrees .sound) d date))
+  days-short : daysUnready S D ≡ daysShort o lent
+  days-short = days-unready o (p .settings) (n .settings) (agrees .sound .valid) (agrees .settings) D (length M) (length R) (length C)
 
   ran-ok : (d x : ℕ) → cond (not (isRun l d)) 14 x ≡ 0 → (isRun l d ≡ true) × (x ≡ 0)
   ran-ok d x e = let p = check-passed (not (isRun l d)) 13 x e in (not-false (isRun l d) (p .0), p .1)
 
-  read-ok : (d : ℕ) (in-range : Bool) → readCheck (cellsShort o lent) (dates o) d in-range (isRun l d) ≡ 0 → CellsEnough × (d < dates o) × (in-range ≡ true) × (isRun l d ≡ true)
-  unfolding readCheck
-  read-ok d b e =
-      let (enough, date, range, rest) = range-ok (cellsShort o lent) (λ q. q) d b _ e in
-      (enough, date, range, ran-ok d 0 rest .0)
+  -- 1, 9 and 15, where settings and another part are long enough; what follows looks at a date that there is, and at a category or period in range
+  module _ {Other : Type 0} (short : Bool) (enough : short ≡ false → SettingsAgree o S × Other) where
+    range-check : (d : ℕ) (in-store in-ledger : Bool) → (SettingsAgree o S → in-store ≡ in-ledger) → (x y : ℕ) → (SettingsAgree o S × Other → d < dates o → in-ledger ≡ true → x ≡ y) →
+        rangeCheck short (datesOf S) d in-store x ≡ rangeCheck short (dates o) d in-ledger y
+    range-check d a b h x y same =
+        cases short
+        (λ q. rw q)
+        (λ q.
+        let e = enough q in
+        rw (q, e .0 .dates-are, h (e .0))
+        (cases (leb (dates o) d)
+        (λ w. rw w)
+        (λ w. cases b (λ v. rw (w, v, same e (leb-false (dates o) d w) v)) (λ v. rw (w, v)))))
+
+    range-ok : (d : ℕ) (in-range : Bool) (x : ℕ) → rangeCheck short (dates o) d in-range x ≡ 0 → (SettingsAgree o S × Other) × (d < dates o) × (in-range ≡ true) × (x ≡ 0)
+    range-ok d b x e =
+        let p1 = check-passed short 0 _ e in
+        let p9 = check-passed (leb (dates o) d) 8 _ (p1 .1) in
+        let p15 = check-passed (not b) 14 _ (p9 .1) in
+        (enough (p1 .0), leb-false (dates o) d (p9 .0), not-false b (p15 .0), p15 .1)
+
+    -- 14
+    read-check : (d : ℕ) (in-store in-ledger ran : Bool) → (SettingsAgree o S → in-store ≡ in-ledger) → (SettingsAgree o S × Other → d < dates o → in-ledger ≡ true → ran ≡ isRun l d) →
+        readCheck short (datesOf S) d in-store ran ≡ readCheck short (dates o) d in-ledger (isRun l d)
+    unfolding readCheck
+    read-check d a b ran h same = range-check d a b h _ _ (λ e date range. rw (same e date range))
+
+    read-ok : (d : ℕ) (in-range : Bool) → readCheck short (dates o) d in-range (isRun l d) ≡ 0 → (SettingsAgree o S × Other) × (d < dates o) × (in-range ≡ true) × (isRun l d ≡ true)
+    unfolding readCheck
+    read-ok d b e =
+        let (lent-enough, date, range, rest) = range-ok d b _ e in
+        (lent-enough, date, range, ran-ok d 0 rest .0)
+
+  -- whether a date is run, read off the cells
+  ran-alike : {Range : Type 0} (d : ℕ) → CellsEnough → d < dates o → Range → isRunAt (rowLength S) C d ≡ isRun l d
+  ran-alike d e date range = run-is l S C (e .0) (e .1) (agrees .sound) d date
 
   totals-verdict : (d c : ℕ) → totalsVerdict S C d c ≡ ledgerTotalsCheck l lent d c
   unfolding totalsVerdict ledgerTotalsCheck
-  totals-verdict d c = rw cells-short (ap verdict (read-check d _ (totalsInRange (categories o) c) (λ s. rw (s .categories-are))))
+  totals-verdict d c =
+      rw cells-short
+      (ap verdict (read-check (cellsShort o lent) enough-cells d (totalsInRange (categoriesOf S) c) (totalsInRange (categories o) c) (isRunAt (rowLength S) C d) (λ s. rw (s .categories-are)) (ran-alike d)))
 
   totals-value : (d c : ℕ) → ledgerTotalsCheck l lent d c .number ≡ 0 → totalsFor S C d c ≡ totalsAt l d c
   unfolding ledgerTotalsCheck totalsInRange
   totals-value d c e =
-      let (enough, date, range, ran) = read-ok d (totalsInRange (categories o) c) e in
+      let (enough, date, range, ran) = read-ok (cellsShort o lent) enough-cells d (totalsInRange (categories o) c) e in
       totals-are l S C (enough .0) (enough .1) (agrees .sound) d c date (ltb-true c (categories o) range) ran
 
   totals-step : (d c : ℕ) → Step (readTotals d c)
@@ -278,12 +306,13 @@ module _ (whole : Lengths) (p : Parts) (l : Ledger) (agrees : Agrees whole p l) 
   cell-verdict d c j =
       rw cells-short
       (ap verdict
-      (read-check d (cellInRange (categoriesOf S) (periodsOf S) c j) (cellInRange (categories o) (periods o) c j) (λ s. unfold periodsOf in rw (s .categories-are, s .duration))))
+      (read-check (cellsShort o lent) enough-cells d (cellInRange (categoriesOf S) (periodsOf S) c j) (cellInRange (categories o) (periods o) c j) (isRunAt (rowLength S) C d) (λ s. unfold periodsOf in rw (s .categories-are, s .duration))
+      (ran-alike d)))
 
   cell-value : (d c j : ℕ) → ledgerCellCheck l lent d c j .number ≡ 0 → cellFor S C d c j ≡ cellAt l d c j
   unfolding ledgerCellCheck cellInRange
   cell-value d c j e =
-      let (enough, date, range, ran) = read-ok d (cellInRange (categories o) (periods o) c j) e in
+      let (enough, date, range, ran) = read-ok (cellsShort o lent) enough-cells d (cellInRange (categories o) (periods o) c j) e in
       let q = and-eq-true-iff (ltb c (categories o)) (between 1 (periods o) j) .0 range in
       let w = between-true 1 (periods o) j .0 (q .1) in
       numbered j (w .0) (λ k h. cell-is l S C (enough .0) (enough .1) (agrees .sound) d c k date (ltb-true c (categories o) (q .0)) h ran) (w .1)
@@ -307,7 +336,7 @@ module _ (whole : Lengths) (p : Parts) (l : Ledger) (agrees : Agrees whole p l) 
   net-verdict a =
       rw (lists-short (a .numbers) (a .marks))
       (ap verdict
-      (range-check (cellsShort o lent || listsShort (periods o) (a .numbers) (a .marks)) (λ q. neither _ _ q .0) (a .date) (totalsInRange (categoriesOf S) (a .category)) (totalsInRange (categories o) (a .category)) (λ s. rw (s .categories-are))
+      (range-check (cellsShort o lent || listsShort (periods o) (a .numbers) (a .marks)) (λ q. enough-cells (neither _ _ q .0)) (a .date) (totalsInRange (categoriesOf S) (a .category)) (totalsInRange (categories o) (a .category)) (λ s. rw (s .categories-are))
       (cond (not (mayNet (categoryOf S) (categoriesOf S) (a .allGroups) (a .category))) 26 (cond (not (isRunAt (rowLength S) C (a .date))) 14 0))
       (cond (not (mayNet (category o) (categories o) (a .allGroups) (a .category))) 26 (cond (not (isRun l (a .date))) 14 0))
       (λ e date range.
@@ -320,7 +349,7 @@ module _ (whole : Lengths) (p : Parts) (l : Ledger) (agrees : Agrees whole p l) 
   net-value : (a : NetCall) → ledgerNetCheck l lent a .number ≡ 0 → netFor S C a ≡ netAt l a
   unfolding ledgerNetCheck netCheck totalsInRange
   net-value a e =
-      let (enough, date, range, rest) = range-ok (cellsShort o lent || listsShort (periods o) (a .numbers) (a .marks)) (λ q. neither _ _ q .0) (a .date) (totalsInRange (categories o) (a .category)) _ e in
+      let (enough, date, range, rest) = range-ok (cellsShort o lent || listsShort (periods o) (a .numbers) (a .marks)) (λ q. enough-cells (neither _ _ q .0)) (a .date) (totalsInRange (categories o) (a .category)) _ e in
       let p26 = check-passed (not (mayNet (category o) (categories o) (a .allGroups) (a .category))) 25 _ rest in
       net-is l S C (enough .0) (enough .1) (agrees .sound) a date (ltb-true (a .category) (categories o) range) (ran-ok (a .date) 0 (p26 .1) .0)
 
@@ -350,7 +379,7 @@ module _ (whole : Lengths) (p : Parts) (l : Ledger) (agrees : Agrees whole p l) 
   fill-verdict a =
       rw (lists-short (length (a .marks)) (a .room))
       (ap verdict
-      (range-check (cellsShort o lent || listsShort (periods o) (length (a .marks)) (a .room)) (λ q. neither _ _ q .0) (a .date) (totalsInRange (categoriesOf S) (shapeFor S a)) (totalsInRange (categories o) (shapeAt l a)) (λ s. rw (s .categories-are, shape-is l S s a))
+      (range-check (cellsShort o lent || listsShort (periods o) (length (a .marks)) (a .room)) (λ q. enough-cells (neither _ _ q .0)) (a .date) (totalsInRange (categoriesOf S) (shapeFor S a)) (totalsInRange (categories o) (shapeAt l a)) (λ s. rw (s .categories-are, shape-is l S s a))
       (cond (not (isRunAt (rowLength S) C (a .date))) 14 (cond (not (mayFill (periodsOf S) (weightFor S C a))) 17 0))
       (cond (not (isRun l (a .date))) 14 (cond (not (mayFill (periods o) (weightAt l a))) 17 0))
       (λ e date range.
@@ -362,12 +391,30 @@ module _ (whole : Lengths) (p : Parts) (l : Ledger) (agrees : Agrees whole p l) 
   fill-value : (a : FillCall) → ledgerFillCheck l lent a .number ≡ 0 → fillFor S C a ≡ fillAt l a
   unfolding ledgerFillCheck fillCheck totalsInRange
   fill-value a e =
-      let (enough, date, range, rest) = range-ok (cellsShort o lent || listsShort (periods o) (length (a .marks)) (a .room)) (λ q. neither _ _ q .0) (a .date) (totalsInRange (categories o) (shapeAt l a)) _ e in
+      let (enough, date, range, rest) = range-ok (cellsShort o lent || listsShort (periods o) (length (a .marks)) (a .room)) (λ q. enough-cells (neither _ _ q .0)) (a .date) (totalsInRange (categories o) (shapeAt l a)) _ e in
       fill-is l S C (enough .0) (enough .1) (agrees .sound) a date (ltb-true _ (categories o) range) (ran-ok (a .date) _ rest .0)
 
   fill-step : (a : FillCall) → Step (fillHole a)
   unfolding callAnswer leaves ledgerAnswer ledgerAfter
   fill-step a = record { answers = rw (fill-verdict a) (same-answer _ _ _ (λ e. ap filledAre (fill-value a e))); after = read-agrees }
+
+  coverage-verdict : (d c : ℕ) → coverageVerdict S D d c ≡ ledgerCoverageCheck l lent d c
+  unfolding coverageVerdict ledgerCoverageCheck
+  coverage-verdict d c =
+      rw days-short
+      (ap verdict
+      (read-check (daysShort o lent) enough-days d (totalsInRange (categoriesOf S) c) (totalsInRange (categories o) c) (isRunDay (datesOf S) c D d) (λ s. rw (s .categories-are))
+      (λ e date range. run-day-is l S D (e .0) (e .1) (agrees .sound) d c date (ltb-true c (categories o) (unfold totalsInRange in range)))))
+
+  coverage-value : (d c : ℕ) → ledgerCoverageCheck l lent d c .number ≡ 0 → coverageFor S D d c ≡ coverageAt l d c
+  unfolding ledgerCoverageCheck totalsInRange
+  coverage-value d c e =
+      let (enough, date, range, ran) = read-ok (daysShort o lent) enough-days d (totalsInRange (categories o) c) e in
+      coverage-is l S D (enough .0) (enough .1) (agrees .sound) d c date (ltb-true c (categories o) range) ran
+
+  coverage-step : (d c : ℕ) → Step (readCoverage d c)
+  unfolding callAnswer leaves ledgerAnswer ledgerAfter
+  coverage-step d c = record { answers = rw (coverage-verdict d c) (same-answer _ _ _ (λ e. ap coverageIs (coverage-value d c e))); after = read-agrees }
 
   step : (c : Call) → BodyOfBytes c → Step c
   step (register a) b = registration-step a
@@ -378,6 +425,7 @@ module _ (whole : Lengths) (p : Parts) (l : Ledger) (agrees : Agrees whole p l) 
   step (readNet a) b = net-step a
   step (searchBand a) b = band-step a
   step (fillHole a) b = fill-step a
+  step (readCoverage d c) b = coverage-step d c
 
 -- ---- every list of calls
 
@@ -406,16 +454,17 @@ list-agrees items whole p l a b = simulation _ _ _ _ (Agrees whole) (λ i. BodyO
 
 -- ---- from an accepted opening on
 
-pub opened-agrees : (p : Parts) (a : Opening) → openingVerdict (p .settings) (p .meters) (p .readings) (p .cells) a .number ≡ 0 → Agrees (lengthsOf p) (openedParts p a) (start a)
-unfolding openedParts start openedMeters openedReadings openedCells
+pub opened-agrees : (p : Parts) (a : Opening) → openingVerdict (p .settings) (p .meters) (p .readings) (p .cells) (p .days) a .number ≡ 0 → Agrees (lengthsOf p) (openedParts p a) (start a)
+unfolding openedParts start openedMeters openedReadings openedCells openedDays
 opened-agrees p a e =
-    let ok = open-step.opening-accepted (p .settings) (p .meters) (p .readings) (p .cells) a e in
+    let ok = open-step.opening-accepted (p .settings) (p .meters) (p .readings) (p .cells) (p .days) a e in
     record {
       sound = record { valid = ok .valid; meters = tt; few = omega arith; pictures-are = λ d q z. absurd (let y : _≡_ {A = ℕ} 0 1 = cc in omega arith) };
       settings = open-step.settings-agree a (p .settings) (ok .valid .whole) (ok .settings-long);
       meters = open-step.meters-agree a (p .meters) (ok .meters-long);
       readings = open-step.readings-agree a (p .readings) (ok .readings-long);
       cells = open-step.cells-agree a (p .cells) (ok .cells-long);
+      days = open-step.days-agree a (p .days) (ok .days-long);
       lengths =
           λ i.
           record {
@@ -423,6 +472,7 @@ opened-agrees p a e =
             meters = open-step.emptied-length (metersLength (a .meters)) (p .meters) (ok .meters-long) i;
             readings = open-step.emptied-length _ (p .readings) (ok .readings-long) i;
             cells = open-step.emptied-length _ (p .cells) (ok .cells-long) i;
+            days = open-step.emptied-length _ (p .days) (ok .days-long) i;
           };
     }
 

@@ -1,32 +1,30 @@
 -- The reads answer alike.
-use Prim.Native.Nat.{ℕ, suc, _+_, _-_, _*_, _≤_, _<_}
+use Prim.Native.Nat.{ℕ, suc, _-_, _≤_, _<_}
 use mathlib.Core.Path.{_≡_, refl, sym, ap, _∙_}
 use mathlib.Core.Bool.{Bool, true, cond}
 use mathlib.Core.List.{List}
 use native.Mathlib.Omega.{arith}
-use native.Mathlib.Nat.{mul-le-mul-right}
 use lib.Dec.{leb}
 use borrow.Table.Steps.{cases}
+use borrow.Author.Tests.{ne-eqb}
 use Rattle.metering.specs.Average.{annual}
 use Rattle.metering.specs.Calendar.{liesWithin, windowStart, windowEnd}
-use Rattle.ledger.specs.Method.{Cell, isFresh, isBlank, overRunDates, totOn, offOn, peakOn, totalsOn}
+use Rattle.ledger.specs.Method.{Cell, isFresh, isBlank, overRunDates, freshAmong, blanksAmong, totOn, offOn, peakOn, totalsOn}
 use Rattle.ledger.specs.Net.{activeImport, activeExport, onSide, sideOf}
 use Rattle.ledger.specs.Band.{BandCall, inBand, bandDates, bandOn}
 use Rattle.ledger.specs.Fill.{ShapeOf, ofCategory, ofOptedOut, isOptedOutShape, shapeCategory, FillCall, weightBy, mayFill}
 use Rattle.ledger.specs.Checks.{NetCall, mayNet}
-use Rattle.ledger.specs.Ledger.{categories, dates, periods, category, dayType, Ledger, cellAt, isPicture, isRun, totalsAt, sideAt, netAt, bandAt, shapeAt, weightAt, fillAt}
-use Rattle.ledger.specs.Store.{periodsOf, rowLength, categoryOf, dayTypeOf, cellIndex, cellOfEntry, isRunAt}
-use Rattle.ledger.specs.Calls.{rowAt, cellFor, totalsFor, sideFor, netFor, bandFor, shapeFor, weightFor, fillFor}
+use Rattle.ledger.specs.Ledger.{categories, dates, periods, category, dayType, Ledger, cellBy, cellAt, isPicture, isRun, totalsAt, sideAt, netAt, bandAt, shapeAt, weightAt, fillAt, coverageAt}
+use Rattle.ledger.specs.Store.{datesOf, periodsOf, rowLength, categoryOf, dayTypeOf, cellIndex, isRunAt, isRunDay}
+use Rattle.ledger.specs.Calls.{rowAt, cellFor, totalsFor, sideFor, netFor, bandFor, shapeFor, weightFor, fillFor, coverageFor}
 use Rattle.ledger.specs.Engine.{Every}
-use Rattle.ledger.proofs.Lists.{sumBelow-cong, block-below}
+use Rattle.ledger.proofs.Lists.{sumBelow-cong}
+use Rattle.ledger.proofs.Days.{day-not-zero, recounted}
 use Rattle.ledger.proofs.Chosen.{chosen-cong, chosen-below, first-cong}
 use Rattle.ledger.proofs.Nets.{net-cong}
 use Rattle.ledger.proofs.Fills.{filled-cong}
-use Rattle.ledger.proofs.Entries.{cell-entry}
-use Rattle.ledger.proofs.Columns.{cell-small}
-use Rattle.ledger.proofs.Rows.{columnCell, run-at}
-use Rattle.ledger.proofs.Relation.{SettingsAgree, shapes, CellsAgree, Sound}
-use Rattle.ledger.proofs.Runs.{column-is, valid-periods, shapes-small}
+use Rattle.ledger.proofs.Relation.{SettingsAgree, CellsAgree, dayBy, DaysAgree, Sound}
+use Rattle.ledger.proofs.Runs.{valid-periods, ran-is, entry-is}
 
 -- ---- totals over cells that are alike on run dates
 
@@ -60,7 +58,7 @@ module _ (duration periods w : ℕ) (run run′ : ℕ → Bool) (cell cell′ : 
   over-alike n f f′ h = over-cong run run′ n f f′ d same h
 
   totals-cong : run d ≡ true → totalsOn duration periods w run cell d ≡ totalsOn duration periods w run′ cell′ d
-  unfolding totalsOn
+  unfolding totalsOn freshAmong blanksAmong
   totals-cong r =
       let days : overRunDates run 365 (λ _. 1) d ≡ overRunDates run′ 365 (λ _. 1) d = over-alike 365 (λ _. 1) (λ _. 1) (λ x h q. refl) in
       let here : (k : ℕ) → k < periods → cell d (suc k) ≡ cell′ d (suc k) = λ k l. alike d k (omega arith) r l in
@@ -82,33 +80,15 @@ module _ (duration periods w : ℕ) (run run′ : ℕ → Bool) (cell cell′ : 
 -- ---- the store's cells are the ledger's
 
 module _ (l : Ledger) (s cells : List ℕ) (agree : SettingsAgree (l .opening) s) (cellsAgree : CellsAgree (l .opening) cells (l .pictures)) (sound : Sound l) where
-  row-is : rowLength s ≡ categories (l .opening) * periods (l .opening)
-  unfolding rowLength periodsOf
-  row-is = rw (agree .categories-are, agree .duration)
-
   pub run-is : (d : ℕ) → d < dates (l .opening) → isRunAt (rowLength s) cells d ≡ isRun l d
   unfolding isRun
-  run-is d h =
-      let p = valid-periods (l .opening) (sound .valid) in
-      let c = sound .valid .categories-are in
-      let t = sound .valid .dates-are in
-      rw row-is
-      (run-at (categories (l .opening) * periods (l .opening)) cells d (isPicture (l .pictures d))
-      (columnCell (dayType (l .opening)) (λ x. isPicture (l .pictures x)) (shapes (l .opening) (l .pictures)) 0 d)
-      (cell-small (dayType (l .opening)) (λ x. isPicture (l .pictures x)) (shapes (l .opening) (l .pictures) 0) (shapes-small (l .opening) (l .pictures) (sound .pictures-are) 0) d (omega arith))
-      (cellsAgree .are d 0 h (omega (arith, mul-le-mul-right (periods (l .opening)) (c .0)))))
+  run-is d h = ran-is (l .opening) s cells agree (l .pictures) (sound .valid) (sound .pictures-are) cellsAgree d h
 
   pub cell-is : (d c k : ℕ) → d < dates (l .opening) → c < categories (l .opening) → k < periods (l .opening) → isRun l d ≡ true → cellFor s cells d c (suc k) ≡ cellAt l d c (suc k)
   unfolding cellFor cellIndex isRun cellAt periodsOf rowAt
   cell-is d c k hd hc hk r =
-      let t = sound .valid .dates-are in
-      let n = categories (l .opening) * periods (l .opening) in
-      let place = c * periods (l .opening) + k in
       rw (agree .categories-are, agree .duration, pred-suc k)
-      (ap cellOfEntry (cellsAgree .are d place hd (block-below (periods (l .opening)) (categories (l .opening)) c k hc hk) ∙ rw r)
-      ∙ cell-entry (columnCell (dayType (l .opening)) (λ x. isPicture (l .pictures x)) (shapes (l .opening) (l .pictures)) place d)
-      (cell-small (dayType (l .opening)) (λ x. isPicture (l .pictures x)) (shapes (l .opening) (l .pictures) place) (shapes-small (l .opening) (l .pictures) (sound .pictures-are) place) d (omega arith))
-      ∙ column-is (l .opening) (l .pictures) c k d hk)
+      (unfold rowAt in entry-is (l .opening) s cells agree (l .pictures) (sound .valid) (sound .pictures-are) cellsAgree d c k hd hc hk r)
     where
       pred-suc : (k : ℕ) → suc k - 1 ≡ k
       pred-suc k = omega arith
@@ -190,3 +170,23 @@ module _ (l : Ledger) (s cells : List ℕ) (agree : SettingsAgree (l .opening) s
   pub fill-is : fillFor s cells a ≡ fillAt l a
   unfolding fillFor fillAt periodsOf
   fill-is = rw (agree .duration) (filled-cong (periods (l .opening)) (weightFor s cells a) (weightAt l a) (a .advance) weight-is)
+
+-- ---- coverage
+
+module _ (l : Ledger) (s days : List ℕ) (agree : SettingsAgree (l .opening) s) (daysAgree : DaysAgree (l .opening) days (l .pictures)) (sound : Sound l) (d c : ℕ)
+    (hd : d < dates (l .opening)) (hc : c < categories (l .opening)) where
+  -- a date is run in the days where it is run
+  pub run-day-is : isRunDay (datesOf s) c days d ≡ isRun l d
+  unfolding isRunDay isRun dayBy
+  run-day-is =
+      rw (agree .dates-are, daysAgree .are c d hc hd .0)
+      (cases (isPicture (l .pictures d))
+      (λ r. rw (r, ne-eqb _ 0 (day-not-zero (periods (l .opening)) (λ k. cellBy (l .opening) (l .pictures) d c (suc k)))))
+      (λ r. rw r))
+
+  pub coverage-is : isRun l d ≡ true → coverageFor s days d c ≡ coverageAt l d c
+  unfolding coverageFor coverageAt isRun cellAt dayBy
+  coverage-is r =
+      rw (agree .dates-are, daysAgree .are c d hc hd .0, daysAgree .are c d hc hd .1)
+      (recounted (periods (l .opening)) (valid-periods (l .opening) (sound .valid) .1) (λ x. isPicture (l .pictures x)) (λ x j. cellBy (l .opening) (l .pictures) x c j)
+      (dayBy (l .opening) (l .pictures) c) d (λ y h. refl) r)

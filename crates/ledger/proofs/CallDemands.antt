@@ -17,8 +17,8 @@ use Rattle.metering.specs.Calendar.{durationKnown, periodsPerDay, periodEnding}
 use Rattle.metering.specs.Laws.{between-true, duration-is, duration-pos, periodsPerDay-times, periodEnding-at, periodEnding-is, periodEnding-le}
 use Rattle.ledger.specs.Method.{Category, categoryAt, isSmart, sameFamily, ReadingSet, Picture}
 use Rattle.ledger.specs.Checks.{verdict, firstFailed, anyBelow, recordAt, sameKey, categoryNumber, dayTypeNumber, orElse, sizesValid, openingCheck, callNumber, Registration, RegistrationCall, startOf, notAfterLast, fieldsNumber, knownNumber, meterNumber, registrationCheck, ReceptionCall, endMinute, quality, wattHoursAt, contentNumber, recordNumberIf, recordNumber, headerNumber, bodyCheck, inForceCheck, receptionCheck, runCheck, readCheck, totalsInRange, cellInRange, bandCheck, listsShort}
-use Rattle.ledger.specs.Ledger.{Opening, categories, dates, periods, category, dayType, Meter, Ledger, accepted, answer, Lengths, settingsShort, metersShort, cellsShort, anyShort, meterWith, registrationsOf, isHeld, heldFrom, ledgerRegistrationCheck, currentOf, ledgerReceptionCheck, isPicture, isRun, ledgerRunCheck, ledgerTotalsCheck, ledgerCellCheck, ledgerBandCheck, ledgerAnswer}
-use Rattle.ledger.specs.Demands.{GoodRecord, MayReceive, ReceptionExact, Row, row, rowOf, eachBelow, AllHold, FirstFails, MetersLong, CellsLong, AllLong, GoodSizes, ValidCategory, SameKey, GoodCategory, GoodDayType, openingRows, OpeningExact, FirstBad, OpeningPlaces, KeysDiffer, StartsOn, GoodFields, registrationRows, RegistrationExact, recordRows, underRows, bodyRows, headerRows, ReceptionAnswer, ReceptionPlaces, HasPicture, RunExact, TotalsExact, CellExact, BandAnswer, SameFamily, FamilyExact}
+use Rattle.ledger.specs.Ledger.{Opening, categories, dates, periods, category, dayType, Meter, Ledger, accepted, answer, Lengths, settingsShort, metersShort, cellsShort, daysShort, anyShort, meterWith, registrationsOf, isHeld, heldFrom, ledgerRegistrationCheck, currentOf, ledgerReceptionCheck, isPicture, isRun, ledgerRunCheck, ledgerTotalsCheck, ledgerCoverageCheck, ledgerCellCheck, ledgerBandCheck, ledgerAnswer}
+use Rattle.ledger.specs.Demands.{GoodRecord, MayReceive, ReceptionExact, Row, row, rowOf, eachBelow, AllHold, FirstFails, MetersLong, CellsLong, DaysLong, AllLong, GoodSizes, ValidCategory, SameKey, GoodCategory, GoodDayType, openingRows, OpeningExact, FirstBad, OpeningPlaces, KeysDiffer, StartsOn, GoodFields, registrationRows, RegistrationExact, recordRows, underRows, bodyRows, headerRows, ReceptionAnswer, ReceptionPlaces, HasPicture, RunExact, TotalsExact, CoverageExact, CellExact, BandAnswer, SameFamily, FamilyExact}
 use Rattle.ledger.proofs.Choices.{neither}
 use Rattle.ledger.proofs.Lists.{below-suc}
 use Rattle.ledger.proofs.FirstFailed.{Finds, Decides, AtPlace, all-append, first-left, first-right, all-left, of-each, each-all, first-append, first-each, each-first, at-place, only, first-bad, finds-none, finds-skip, finds-row, decides-row, finds-both, decides-else, decides-each, passed-all, goes-by}
@@ -62,6 +62,10 @@ module _ (o : Opening) (n : Lengths) where
   unfolding cellsShort settingsShort
   cells-iff = (λ e. let q = neither _ _ e in (ltb-false _ _ (q .0), ltb-false _ _ (q .1)), λ h. rw (le-ltb _ _ (h .0), le-ltb _ _ (h .1)))
 
+  days-iff : (daysShort o n ≡ false) ↔ DaysLong o n
+  unfolding daysShort settingsShort
+  days-iff = (λ e. let q = neither _ _ e in (ltb-false _ _ (q .0), ltb-false _ _ (q .1)), λ h. rw (le-ltb _ _ (h .0), le-ltb _ _ (h .1)))
+
   -- and two lists that take P entries each
   pub lists-iff : (x y : ℕ) → ((cellsShort o n || listsShort (periods o) x y) ≡ false) ↔ (CellsLong o n × (periods o ≤ x) × (periods o ≤ y))
   unfolding listsShort
@@ -72,7 +76,10 @@ module _ (o : Opening) (n : Lengths) where
 
   any-iff : (anyShort o n ≡ false) ↔ AllLong o n
   unfolding anyShort
-  any-iff = (λ e. let q = neither _ _ e in (meters-iff .0 (q .0), ltb-false _ _ (q .1)), λ h. rw (meters-iff .1 (h .0), le-ltb _ _ (h .1)))
+  any-iff = (
+    λ e. let p = neither _ _ e in let q = neither _ _ (p .0) in (meters-iff .0 (q .0), ltb-false _ _ (q .1), ltb-false _ _ (p .1)),
+    λ h. rw (meters-iff .1 (h .0), le-ltb _ _ (h .1), le-ltb _ _ (h .2)),
+  )
 
 -- ---- opening
 
@@ -589,6 +596,16 @@ unfolding ledgerAnswer ledgerTotalsCheck readCheck totalsInRange
 totals-exact l n d c =
     goes-by (ledgerTotalsCheck l n d c) _ refl
     (finds-row refl (cells-iff (l .opening) n)
+    (finds-row refl (date-iff (dates (l .opening)) d)
+    (finds-row refl (not-iff _ (below-iff (categories (l .opening)) c))
+    (finds-row refl (not-iff _ (ran-iff l d))
+    finds-none))))
+
+pub coverage-exact : CoverageExact
+unfolding ledgerAnswer ledgerCoverageCheck readCheck totalsInRange
+coverage-exact l n d c =
+    goes-by (ledgerCoverageCheck l n d c) _ refl
+    (finds-row refl (days-iff (l .opening) n)
     (finds-row refl (date-iff (dates (l .opening)) d)
     (finds-row refl (not-iff _ (below-iff (categories (l .opening)) c))
     (finds-row refl (not-iff _ (ran-iff l d))

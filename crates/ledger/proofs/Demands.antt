@@ -10,7 +10,7 @@ use borrow.Table.Steps.{cases}
 use borrow.Author.Tests.{eqb-true, eq-eqb, ne-eqb, lt-leb}
 use Rattle.ledger.specs.Method.{Category, Picture, freshIn, Fresh, absent, own, pooled, Cell, Flag, A, D, E, N, blank, carried, cellFrom, Day, notRun, ran, afterDate, latest, cellOf, cellOn}
 use Rattle.ledger.specs.Checks.{verdict, runCheck, readCheck, totalsInRange, cellInRange}
-use Rattle.ledger.specs.Ledger.{categories, dates, periods, category, dayType, Ledger, Answer, refused, moved, totalsAre, cellIs, answer, Lengths, cellsShort, anyShort, at, cellBy, cellAt, dayOf, isPicture, isRun, ledgerRunCheck, ledgerTotalsCheck, ledgerCellCheck, pictureOf, afterRun, movedBetween, totalsAt, ledgerAnswer}
+use Rattle.ledger.specs.Ledger.{categories, dates, periods, category, dayType, Ledger, Answer, refused, moved, totalsAre, coverageIs, cellIs, answer, Lengths, cellsShort, daysShort, anyShort, at, cellBy, cellAt, dayOf, isPicture, isRun, ledgerRunCheck, ledgerTotalsCheck, ledgerCoverageCheck, coverageAt, ledgerCellCheck, pictureOf, afterRun, movedBetween, totalsAt, ledgerAnswer}
 use Rattle.ledger.specs.Demands.{RunIsMethod, NeverNotRun, SecondRunMovesNothing, SamePicturesSameCells, CopiesHaveOrigins}
 use Rattle.ledger.proofs.Lists.{sumBelow-none}
 use Rattle.ledger.proofs.Entries.{moved-same}
@@ -52,10 +52,11 @@ no-14 false false false y n e = let z : _≡_ {A = ℕ} 15 14 = cc in omega arit
 no-14 false false true y n e = n e
 
 pub never-not-run : NeverNotRun
-unfolding ledgerAnswer ledgerCellCheck ledgerTotalsCheck readCheck
+unfolding ledgerAnswer ledgerCellCheck ledgerTotalsCheck ledgerCoverageCheck readCheck
 never-not-run l n d c j r = (
   rw r (no-14 (cellsShort (l .opening) n) (leb (dates (l .opening)) d) (cellInRange (categories (l .opening)) (periods (l .opening)) c j) (cellIs (cellAt l d c j)) (λ e. let z : _≡_ {A = ℕ} 0 1 = cc in omega arith)),
   rw r (no-14 (cellsShort (l .opening) n) (leb (dates (l .opening)) d) (totalsInRange (categories (l .opening)) c) (totalsAre (totalsAt l d c)) (λ e. let z : _≡_ {A = ℕ} 0 1 = cc in omega arith)),
+  rw r (no-14 (daysShort (l .opening) n) (leb (dates (l .opening)) d) (totalsInRange (categories (l .opening)) c) (coverageIs (coverageAt l d c)) (λ e. let z : _≡_ {A = ℕ} 0 1 = cc in omega arith)),
 )
 
 -- ---- consequences

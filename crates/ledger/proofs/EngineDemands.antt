@@ -16,12 +16,12 @@ use Rattle.metering.specs.Range.{between, metersInRange, categoriesInRange, dat
 use Rattle.ledger.specs.Method.{freshIn, cellFrom, latest, cellOf, cellOn}
 use Rattle.ledger.specs.Fill.{FillCall}
 use Rattle.ledger.specs.Checks.{Verdict, firstFailed, anyBelow, orElse, recordAt, sameKey, categoryNumber, dayTypeNumber, sizesValid, openingCheck, runCheck, readCheck, cellInRange}
-use Rattle.ledger.specs.Sizes.{settingsLength, metersLength, readingsLength, cellsLength}
-use Rattle.ledger.specs.Ledger.{Opening, categories, dates, periods, category, dayType, Ledger, start, Call, register, receive, run, readTotals, readCell, readNet, searchBand, fillHole, Answer, refused, moved, cellIs, answer, left, Lengths, leastLengths, settingsShort, metersShort, cellsShort, anyShort, afterRegistration, afterReception, pictureOf, afterRun, movedBetween, cellBy, cellAt, dayOf, isPicture, isRun, ledgerRegistrationCheck, ledgerReceptionCheck, ledgerRunCheck, ledgerCellCheck, ledgerAnswer, ledgerAfter}
+use Rattle.ledger.specs.Sizes.{settingsLength, metersLength, readingsLength, cellsLength, daysLength}
+use Rattle.ledger.specs.Ledger.{Opening, categories, dates, periods, category, dayType, Ledger, start, Call, register, receive, run, readTotals, readCell, readNet, searchBand, fillHole, readCoverage, Answer, refused, moved, cellIs, answer, left, Lengths, leastLengths, settingsShort, metersShort, cellsShort, anyShort, afterRegistration, afterReception, pictureOf, afterRun, movedBetween, cellBy, cellAt, dayOf, isPicture, isRun, ledgerRegistrationCheck, ledgerReceptionCheck, ledgerRunCheck, ledgerCellCheck, ledgerAnswer, ledgerAfter}
 use Rattle.ledger.specs.Calls.{openingVerdict}
 use Rattle.ledger.specs.Engine.{Parts, openedParts, Item, answersFrom, storeAnswers, cutLengths, ledgerAnswers, lengthsOf, BodyOfBytes, BodiesOfBytes, Every}
-use Rattle.ledger.specs.Demands.{ledgerAfterItems, ledgerBeside, LastAnswer, Accepts, EngineReceivesExactly, EngineRuns, Spares, EngineReadsMethod, shapeValue, Shared, Fills, EngineFills}
-use Rattle.ledger.specs.Marked.{exampleOpening, exampleCalls, exampleAnswers, netOpening, netCalls, netAnswers, bandOpening, bandCalls, bandAnswers, fillOpening, fillCalls, fillAnswers, ledgerRun, worked-examples, lentLeast, EngineAnswers, WorkedOnEngine}
+use Rattle.ledger.specs.Demands.{ledgerAfterItems, ledgerBeside, LastAnswer, Accepts, EngineReceivesExactly, EngineRuns, Spares, EngineReadsMethod, shapeValue, Shared, Fills, EngineFills, EngineCovers}
+use Rattle.ledger.specs.Marked.{exampleOpening, exampleCalls, exampleAnswers, netOpening, netCalls, netAnswers, bandOpening, bandCalls, bandAnswers, fillOpening, fillCalls, fillAnswers, coverageOpening, coverageCalls, coverageAnswers, ledgerRun, worked-examples, lentLeast, EngineAnswers, WorkedOnEngine}
 use Rattle.ledger.proofs.Choices.{check-passed}
 use Rattle.ledger.proofs.Verdicts.{left-none, left-of}
 use Rattle.ledger.proofs.Chosen.{every-append}
@@ -31,6 +31,7 @@ use Rattle.ledger.proofs.Agreement.{agreement}
 use Rattle.ledger.proofs.Demands.{at-same, at-other, latest-alike, run-is-method}
 use Rattle.ledger.proofs.CallDemands.{reception-exact}
 use Rattle.ledger.proofs.FillDemands.{fill-shares}
+use Rattle.ledger.proofs.CoverageDemands.{coverage-covers}
 
 -- ---- the last answer
 
@@ -87,6 +88,7 @@ kept l n (readCell d c j) = (refl, λ x other. refl)
 kept l n (readNet a) = (refl, λ x other. refl)
 kept l n (searchBand a) = (refl, λ x other. refl)
 kept l n (fillHole a) = (refl, λ x other. refl)
+kept l n (readCoverage d c) = (refl, λ x other. refl)
 
 opening-stays : (l : Ledger) (whole : Lengths) (items : List Item) → ledgerAfterItems l whole items .opening ≡ l .opening
 unfolding ledgerAfterItems
@@ -126,7 +128,7 @@ opening-beside p a items = opening-stays (start a) (lengthsOf p) items ∙ (unfo
 
 known-duration : (p : Parts) (a : Opening) → Accepts p a → durationKnown (a .duration) ≡ true
 unfolding durationKnown
-known-duration p a e = ⊎-elim (λ h. rw h) (λ h. rw h) (opening-accepted (p .settings) (p .meters) (p .readings) (p .cells) a e .valid .duration)
+known-duration p a e = ⊎-elim (λ h. rw h) (λ h. rw h) (opening-accepted (p .settings) (p .meters) (p .readings) (p .cells) (p .days) a e .valid .duration)
 
 pub engine-receives-exactly : EngineReceivesExactly
 engine-receives-exactly p a items n r e b bytes =
@@ -214,6 +216,17 @@ engine-fills p a items n r given e b heard =
     shares-of a (ledgerBeside p a items) (opening-beside p a items) (cutLengths n (lengthsOf p)) r given
     (store-answered p a e items b (record { lent = n; call = fillHole r }) _ tt heard)
 
+-- ---- coverage reads
+
+-- an accepted opening has at most 800
+few-dates : (p : Parts) (a : Opening) → Accepts p a → dates a ≤ 65535
+few-dates p a e = let h = opening-accepted (p .settings) (p .meters) (p .readings) (p .cells) (p .days) a e .valid .dates-are .1 in omega arith
+
+pub engine-covers : EngineCovers
+engine-covers p a items n d c given e b heard =
+    coverage-covers (ledgerBeside p a items) (cutLengths n (lengthsOf p)) d c given (rw (opening-beside p a items) (few-dates p a e))
+    (store-answered p a e items b (record { lent = n; call = readCoverage d c }) _ tt heard)
+
 -- ---- the worked examples
 
 cut-same : (n : Lengths) → cutLengths n n ≡ n
@@ -225,6 +238,7 @@ cut-same n =
       meters = min-eq-left (le-refl (n .meters)) i;
       readings = min-eq-left (le-refl (n .readings)) i;
       cells = min-eq-left (le-refl (n .cells)) i;
+      days = min-eq-left (le-refl (n .days)) i;
     }
 
 run-of : (l : Ledger) (n : Lengths) (calls : List Call) → ledgerAnswers l n (map (λ c. record { lent = n; call = c }) calls) ≡ ledgerRun l n calls
@@ -240,6 +254,7 @@ least-long a =
       le-ltb (metersLength (a .meters)) _ (le-refl _),
       le-ltb (readingsLength (a .meters) (dates a) (periods a)) _ (le-refl _),
       le-ltb (cellsLength (categories a) (dates a) (periods a)) _ (le-refl _),
+      le-ltb (daysLength (categories a) (dates a)) _ (le-refl _),
     )
 
 -- bodies of bytes, as a computed test
@@ -252,6 +267,7 @@ bodyOf (readCell d c j) = []
 bodyOf (readNet a) = []
 bodyOf (searchBand a) = []
 bodyOf (fillHole a) = []
+bodyOf (readCoverage d c) = []
 
 body-bytes : (c : Call) → allBytes (bodyOf c) ≡ true → BodyOfBytes c
 body-bytes (register a) e = tt
@@ -262,6 +278,7 @@ body-bytes (readCell d c j) e = tt
 body-bytes (readNet a) e = tt
 body-bytes (searchBand a) e = tt
 body-bytes (fillHole a) e = tt
+body-bytes (readCoverage d c) e = tt
 
 abbrev bodiesBytes : List Call → Bool
 bodiesBytes [] = true
@@ -290,4 +307,5 @@ worked-on-engine = (
   engine-answers netOpening netCalls netAnswers refl refl (worked-examples .1),
   engine-answers bandOpening bandCalls bandAnswers refl refl (worked-examples .2),
   engine-answers fillOpening fillCalls fillAnswers refl refl (worked-examples .3),
+  engine-answers coverageOpening coverageCalls coverageAnswers refl refl (worked-examples .4),
 )

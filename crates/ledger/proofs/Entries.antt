@@ -7,7 +7,7 @@ use native.Mathlib.Omega.{arith}
 use lib.Dec.{eqb}
 use borrow.Table.Steps.{cases}
 use borrow.Author.Tests.{eq-eqb, ne-eqb, eqb-true, eqb-false}
-use Rattle.ledger.specs.Method.{Flag, A, D, E, N, flagNumber, Cell, blank, ownCell, pooledCell, isOwnCell, carried, sameCell, movedCell, Fresh, absent, own, pooled, cellFrom}
+use Rattle.ledger.specs.Method.{Flag, A, D, E, N, flagNumber, Cell, isBlank, originOf, blank, ownCell, pooledCell, isOwnCell, carried, sameCell, movedCell, Fresh, absent, own, pooled, cellFrom}
 use Rattle.ledger.specs.Store.{entryOf, flagOf, flagNumberOf, cellOfEntry}
 use Rattle.ledger.specs.Calls.{carriedEntry, isOwn, rowEntry, movedEntry}
 use Rattle.ledger.specs.Ready.{both}
@@ -32,9 +32,13 @@ flag-back D = refl
 flag-back E = refl
 flag-back N = refl
 
-pub flag-entry : (a : Cell) → Small a → flagNumberOf (entryOf a) ≡ flagNumber (a .flag)
+flag-entry : (a : Cell) → flagNumberOf (entryOf a) ≡ flagNumber (a .flag)
 unfolding flagNumberOf entryOf
-flag-entry a s = let f = flag-small (a .flag) in omega arith
+flag-entry a = let f = flag-small (a .flag) in omega arith
+
+-- a put leaves a flag, which says that the date is run
+pub flag-some : (a : Cell) → eqb (flagNumberOf (entryOf a)) 0 ≡ false
+flag-some a = ne-eqb (flagNumberOf (entryOf a)) 0 (λ (e : flagNumberOf (entryOf a) ≡ 0). let f = flag-small (a .flag) in let is = flag-entry a in omega arith)
 
 value-entry : (a : Cell) → Small a → entryOf a / 4294967296 ≡ a .value
 unfolding entryOf
@@ -53,7 +57,7 @@ pub cell-entry : (a : Cell) → Small a → cellOfEntry (entryOf a) ≡ a
 unfolding cellOfEntry
 cell-entry a s = λ i.
     record {
-      flag = (ap flagOf (flag-entry a s) ∙ flag-back (a .flag)) i;
+      flag = (ap flagOf (flag-entry a) ∙ flag-back (a .flag)) i;
       value = value-entry a s i;
       count = count-entry a s i;
       origin = origin-entry a s i;
@@ -176,6 +180,24 @@ carried-carried a =
 pub carry-entry : (a : Cell) → Small a → carriedEntry (entryOf a) ≡ entryOf (carried a)
 unfolding carriedEntry
 carry-entry a s = ap (λ x. entryOf (carried x)) (cell-entry a s)
+
+-- ---- origins
+
+pub origin-shaped : (a : Cell) → a .flag ≢ N → originOf a ≡ a .origin
+unfolding originOf
+origin-shaped a n =
+    (elim (a .flag) as (λ f. a .flag ≡ f → originOf a ≡ a .origin) [ A ↦ λ q. rw q | D ↦ λ q. rw q | E ↦ λ q. rw q | N ↦ λ q. absurd (n q) ]) refl
+
+pub origin-blank : (a : Cell) → a .flag ≡ N → originOf a ≡ 65535
+unfolding originOf
+origin-blank a q = rw q
+
+-- the flag by what it counts for
+pub blank-is-N : (f : Flag) → isBlank f ≡ 1 → f ≡ N
+blank-is-N A e = absurd (omega arith)
+blank-is-N D e = absurd (omega arith)
+blank-is-N E e = absurd (omega arith)
+blank-is-N N e = refl
 
 -- ---- own shapes
 

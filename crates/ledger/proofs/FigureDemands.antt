@@ -15,7 +15,7 @@ use Rattle.metering.specs.Sum.{sumBelow, sumBelow-zero, sumBelow-suc, sumBelow-
 use Rattle.metering.specs.Average.{annual}
 use Rattle.metering.specs.Calendar.{liesWithin, windowStart, windowEnd}
 use Rattle.metering.specs.Laws.{average-is, annual-is, duration-pos, window-0-empty}
-use Rattle.ledger.specs.Method.{Category, Picture, Fresh, absent, freshIn, Flag, A, D, E, N, flagNumber, isFresh, isBlank, blank, carried, cellFrom, Day, notRun, ran, latest, overRunDates, totOn, offOn, peakOn, totalsOn}
+use Rattle.ledger.specs.Method.{Category, Picture, Fresh, absent, freshIn, Flag, A, D, E, N, flagNumber, isFresh, isBlank, blank, carried, cellFrom, Day, notRun, ran, latest, overRunDates, freshAmong, blanksAmong, totOn, offOn, peakOn, totalsOn}
 use Rattle.ledger.specs.Table.{chosenBelow}
 use Rattle.ledger.specs.Net.{sumOver}
 use Rattle.ledger.specs.Ledger.{periods, category, dayType, Ledger, dayOf, isPicture, isRun, cellBy, cellAt, totalsAt}
@@ -148,7 +148,7 @@ module _ (run : ℕ → Bool) (f : ℕ → ℕ) (d : ℕ) where
       let high = leb-false n d q in
       sym (sumBelow-cong (suc d) _ _ (λ x l. term-same n x high) ∙ rw (← by-dates n) (sym (sumBelow-suc n _ ∙ rw (q, add-zero)))))
 
-over-dates : (l : Ledger) (n : ℕ) (f : ℕ → ℕ) (d : ℕ) → overRunDates (isRun l) n f d ≡ sumOver (runDatesAmong l n d) f
+pub over-dates : (l : Ledger) (n : ℕ) (f : ℕ → ℕ) (d : ℕ) → overRunDates (isRun l) n f d ≡ sumOver (runDatesAmong l n d) f
 over-dates l n f d = by-dates (isRun l) f d n ∙ sym (sum-chosen (suc d) _ f)
 
 days-are : (l : Ledger) (n d : ℕ) → overRunDates (isRun l) n (λ _. 1) d ≡ length (runDatesAmong l n d)
@@ -241,7 +241,7 @@ every-flag E = refl
 every-flag N = refl
 
 pub flags-counted : FlagsCounted
-unfolding totalsAt totalsOn
+unfolding totalsAt totalsOn freshAmong blanksAmong
 flags-counted l d c =
     rw (flagged A, flagged D, flagged E, flagged N) (
       sumBelow-cong P _ _ (λ k h. fresh-flags (flag k)) ∙ sumBelow-plus P _ _,

@@ -10,7 +10,7 @@ use lib.Dec.{eqb}
 use borrow.Table.Steps.{cases}
 use borrow.Author.Tests.{eqb-true, eqb-false}
 use Rattle.ledger.specs.Checks.{Verdict, firstFailed, orElse, firstNumber}
-use Rattle.ledger.specs.Ledger.{Answer, refused, accepted, moved, totalsAre, cellIs, netIs, bandIs, filledAre, answer}
+use Rattle.ledger.specs.Ledger.{Answer, refused, accepted, moved, totalsAre, cellIs, netIs, bandIs, filledAre, coverageIs, answer}
 use Rattle.ledger.specs.Demands.{Row, rowOf, eachBelow, AllHold, FirstFails, GoesBy, FirstBad}
 use Rattle.ledger.proofs.Verdicts.{answer-none, answer-some}
 
@@ -193,6 +193,7 @@ isRefusal (cellIs c) = false
 isRefusal (netIs n) = false
 isRefusal (bandIs b) = false
 isRefusal (filledAre v) = false
+isRefusal (coverageIs c) = false
 
 -- the answer of a call whose check goes by rows
 pub goes-by : (v : Verdict) {rows : List Row} (given : Answer) → isRefusal given ≡ false → Decides v rows → GoesBy rows given (answer v given)

@@ -5,6 +5,8 @@ pub mod Lists
 pub mod Entries
 pub mod Columns
 pub mod Walks
+pub mod Days
+pub mod Kept
 pub mod Rows
 pub mod Relation
 pub mod Tallies
@@ -29,5 +31,6 @@ pub mod NetDemands
 pub mod BandDemands
 pub mod FillDemands
 pub mod FigureDemands
+pub mod CoverageDemands
 pub mod SizeDemands
 pub mod EngineDemands

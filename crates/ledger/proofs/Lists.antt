@@ -225,3 +225,19 @@ getD-back n xs ys i h = List·getD-append ys (drop n xs) 0 i h
 
 pub part-length : {A : Type 0} (xs : List A) (at n : ℕ) → at + n ≤ length xs → length (take n (drop at xs)) ≡ n
 part-length xs at n h = length-take-le n (drop at xs) (rw length-drop (omega arith))
+
+-- ---- sums that are alike but for one term
+
+pub sumBelow-changed : (n c : ℕ) (f g : ℕ → ℕ) → c < n → ((k : ℕ) → k < n → k ≢ c → f k ≡ g k) → sumBelow n f + g c ≡ sumBelow n g + f c
+unfolding sumBelow
+sumBelow-changed zero c f g h same = absurd (not-suc-le-zero h)
+sumBelow-changed (suc n) c f g h same =
+    ⊎-elim
+    (λ (e : c ≡ n).
+    rw (e, sumBelow-cong n f g (λ k l. same k (omega arith) (λ (q : k ≡ c). omega arith)))
+    (omega arith))
+    (λ (l : c < n).
+    let before = sumBelow-changed n c f g l (λ k m other. same k (omega arith) other) in
+    let last = same n (omega arith) (λ (q : n ≡ c). omega arith) in
+    omega arith)
+    (eq-or-lt-of-le (le-of-suc-le-suc h))

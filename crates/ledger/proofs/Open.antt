@@ -14,7 +14,7 @@ use Rattle.metering.specs.Range.{metersInRange, categoriesInRange, datesInRange
 use Rattle.metering.specs.Laws.{between-true, duration-is}
 use Rattle.ledger.specs.Method.{categoryAt}
 use Rattle.ledger.specs.Checks.{verdict, firstFailed, categoryNumber, dayTypeNumber, sizesValid, openingCheck}
-use Rattle.ledger.specs.Sizes.{headerLength, settingsLength, metersLength, readingsLength, cellsLength}
+use Rattle.ledger.specs.Sizes.{headerLength, settingsLength, metersLength, readingsLength, cellsLength, daysLength}
 use Rattle.ledger.specs.Opening.{Opening, categories, dates, periods}
 use Rattle.ledger.specs.Ledger.{anyShort, metersShort, settingsShort}
 use Rattle.ledger.specs.Store.{word, wordBytes, headerBytes, durationOf, metersOf, categoriesOf, datesOf, categoryOf, dayTypeOf, mpanAt, registrationIndex, registrationAt, setIndex, isHeldAt}
@@ -23,7 +23,8 @@ use Rattle.ledger.specs.Calls.{openingVerdict, emptied, openedSettings, 
 use Rattle.ledger.proofs.Choices.{verdict-passed, neither}
 use Rattle.ledger.proofs.Verdicts.{passed-else}
 use Rattle.ledger.proofs.Lists.{block-below}
-use Rattle.ledger.proofs.Relation.{Valid, SettingsAgree, FreeAt, MetersAgree, ReadingsAgree, CellsAgree}
+use Rattle.ledger.proofs.Days.{none-are}
+use Rattle.ledger.proofs.Relation.{Valid, SettingsAgree, FreeAt, MetersAgree, ReadingsAgree, CellsAgree, dayBy, DaysAgree}
 use Rattle.ledger.proofs.Receive.{set-below}
 
 -- ---- what an accepted opening tells
@@ -44,21 +45,23 @@ sizes-valid a h =
       whole = let z = eqb-true (length (a .categoryBytes) % 8) 0 (w .1) in omega arith;
     }
 
-pub record OpeningAccepted (settings meters readings cells : List ℕ) (a : Opening) : Type 0 where
+pub record OpeningAccepted (settings meters readings cells days : List ℕ) (a : Opening) : Type 0 where
   pub sizes : sizesValid a ≡ true
   pub valid : Valid a
   pub settings-long : settingsLength (categories a) (dates a) ≤ length settings
   pub meters-long : metersLength (a .meters) ≤ length meters
   pub readings-long : readingsLength (a .meters) (dates a) (periods a) ≤ length readings
   pub cells-long : cellsLength (categories a) (dates a) (periods a) ≤ length cells
+  pub days-long : daysLength (categories a) (dates a) ≤ length days
 
-pub opening-accepted : (settings meters readings cells : List ℕ) (a : Opening) → openingVerdict settings meters readings cells a .number ≡ 0 → OpeningAccepted settings meters readings cells a
+pub opening-accepted : (settings meters readings cells days : List ℕ) (a : Opening) → openingVerdict settings meters readings cells days a .number ≡ 0 → OpeningAccepted settings meters readings cells days a
 unfolding openingVerdict openingCheck anyShort metersShort settingsShort
-opening-accepted settings meters readings cells a e =
+opening-accepted settings meters readings cells days a e =
     let p3 = verdict-passed (not (sizesValid a)) 2 _ e in
     let p4 = passed-else (firstFailed (categoryNumber (a .categoryBytes)) (categories a) 0) _ (p3 .1) in
     let p5 = passed-else (firstFailed (dayTypeNumber (a .dayTypes)) (dates a) 0) _ (p4 .1) in
-    let s3 = neither _ (ltb (length cells) (cellsLength (categories a) (dates a) (periods a))) (shorts _ (p5 .1)) in
+    let s4 = neither _ (ltb (length days) (daysLength (categories a) (dates a))) (shorts _ (p5 .1)) in
+    let s3 = neither _ (ltb (length cells) (cellsLength (categories a) (dates a) (periods a))) (s4 .0) in
     let s2 = neither _ (ltb (length readings) (readingsLength (a .meters) (dates a) (periods a))) (s3 .0) in
     let s1 = neither (ltb (length settings) (settingsLength (categories a) (dates a))) (ltb (length meters) (metersLength (a .meters))) (s2 .0) in
     record {
@@ -68,6 +71,7 @@ opening-accepted settings meters readings cells a e =
       meters-long = ltb-false _ _ (s1 .1);
       readings-long = ltb-false _ _ (s2 .1);
       cells-long = ltb-false _ _ (s3 .1);
+      days-long = ltb-false _ _ (s4 .1);
     }
   where
     shorts : (b : Bool) → (verdict (cond b 1 0)) .number ≡ 0 → b ≡ false
@@ -185,4 +189,13 @@ cells-agree o xs h =
     record {
       are = λ x k l m. emptied-at (dates o * (categories o * periods o)) xs (x * (categories o * periods o) + k) (block-below (categories o * periods o) (dates o) x k l m);
       long = rw (emptied-length (dates o * (categories o * periods o)) xs h) h;
+    }
+
+-- no date is run
+pub days-agree : (o : Opening) (xs : List ℕ) → daysLength (categories o) (dates o) ≤ length xs → DaysAgree o (emptied (daysLength (categories o) (dates o)) xs) (λ d. none)
+unfolding dayBy
+days-agree o xs h =
+    record {
+      are = none-are (dates o) (categories o) (emptied (daysLength (categories o) (dates o)) xs) (λ i l. emptied-at (daysLength (categories o) (dates o)) xs i l);
+      long = rw (emptied-length (daysLength (categories o) (dates o)) xs h) h;
     }

@@ -7,12 +7,13 @@ use native.Mathlib.Omega.{arith}
 use lib.ListN.{length, getD, take, drop, length-take, length-append, take-append-drop}
 use lib.Seq.{length-front}
 use Rattle.ledger.specs.Method.{Picture}
-use Rattle.ledger.specs.Sizes.{metersLength, readingsLength, cellsLength}
+use Rattle.ledger.specs.Sizes.{metersLength, readingsLength, cellsLength, daysLength}
 use Rattle.ledger.specs.Ledger.{Opening, categories, dates, periods, Meter, Lengths}
 use Rattle.ledger.specs.Calls.{rowAt}
 use Rattle.ledger.specs.Engine.{Parts, cut, restored, cutLengths, lengthsOf}
 use Rattle.ledger.proofs.Lists.{getD-cut, getD-back, block-below}
-use Rattle.ledger.proofs.Relation.{MeterAt, FreeAt, MetersAgree, HeldAt, NotHeldAt, ReadingsAgree, CellsAgree}
+use Rattle.ledger.proofs.Days.{day-below, sum-below}
+use Rattle.ledger.proofs.Relation.{MeterAt, FreeAt, MetersAgree, HeldAt, NotHeldAt, ReadingsAgree, CellsAgree, DaysAgree}
 use Rattle.ledger.proofs.Slots.{slots-kept}
 use Rattle.ledger.proofs.Registrations.{meter-stands, free-stands, slots-alike}
 use Rattle.ledger.proofs.Receive.{held-stands, not-held-stands, sets-alike}
@@ -74,6 +75,20 @@ module _ (o : Opening) where
             };
       }
 
+  pub days-rest : (pictures : ℕ → Option Picture) → RestsOn (daysLength (categories o) (dates o)) (λ d. DaysAgree o d pictures)
+  days-rest pictures =
+      record {
+        long = λ d a. a .long;
+        alike = λ d d′ a same long.
+            record {
+              are = λ c x h l. (
+                same _ (day-below (dates o) (categories o) c x h l) ∙ a .are c x h l .0,
+                same _ (sum-below (dates o) (categories o) c x h l) ∙ a .are c x h l .1,
+              );
+              long = long;
+            };
+      }
+
 -- ---- all parts
 
 pub cut-lengths : (n : Lengths) (p : Parts) → lengthsOf (cut n p) ≡ cutLengths n (lengthsOf p)
@@ -85,6 +100,7 @@ cut-lengths n p =
       meters = length-take (n .meters) (p .meters) i;
       readings = length-take (n .readings) (p .readings) i;
       cells = length-take (n .cells) (p .cells) i;
+      days = length-take (n .days) (p .days) i;
     }
 
 -- parts left as they were lent are whole again
@@ -97,6 +113,7 @@ restored-cut n p =
       meters = take-append-drop (n .meters) (p .meters) i;
       readings = take-append-drop (n .readings) (p .readings) i;
       cells = take-append-drop (n .cells) (p .cells) i;
+      days = take-append-drop (n .days) (p .days) i;
     }
 
 pub restored-lengths : (n : Lengths) (p q : Parts) → lengthsOf q ≡ lengthsOf (cut n p) → lengthsOf (restored n p q) ≡ lengthsOf p
@@ -108,4 +125,5 @@ restored-lengths n p q e =
       meters = length-front (p .meters) (q .meters) (n .meters) (ap (λ (k : Lengths). k .meters) e) i;
       readings = length-front (p .readings) (q .readings) (n .readings) (ap (λ (k : Lengths). k .readings) e) i;
       cells = length-front (p .cells) (q .cells) (n .cells) (ap (λ (k : Lengths). k .cells) e) i;
+      days = length-front (p .days) (q .days) (n .days) (ap (λ (k : Lengths). k .days) e) i;
     }

@@ -2,16 +2,17 @@
 use Prim.Native.Nat.{ℕ, suc, _*_, _/_, _%_, _≤_, _<_}
 use mathlib.Core.Path.{_≡_}
 use mathlib.Core.Logic.{_≢_, _⊎_}
-use mathlib.Core.Bool.{false}
+use mathlib.Core.Bool.{false, cond}
 use mathlib.Core.List.{List, [], _∷_}
 use mathlib.Core.Option.{Option, none, some}
 use lib.ListN.{length}
 use Rattle.ledger.specs.Method.{Category, ReadingSet, Picture, wattHours, Fresh, absent, freshIn}
 use Rattle.ledger.specs.Checks.{Registration}
-use Rattle.ledger.specs.Sizes.{settingsLength, metersLength, readingsLength, cellsLength}
-use Rattle.ledger.specs.Ledger.{Opening, categories, dates, periods, category, dayType, Meter, Ledger, isHeld, isPicture}
-use Rattle.ledger.specs.Store.{durationOf, metersOf, categoriesOf, datesOf, categoryOf, dayTypeOf, mpanAt, registrationAt, registrationsAt, isHeldAt, readingAt}
+use Rattle.ledger.specs.Sizes.{settingsLength, metersLength, readingsLength, cellsLength, daysLength}
+use Rattle.ledger.specs.Ledger.{Opening, categories, dates, periods, category, dayType, Meter, Ledger, isHeld, cellBy, isPicture}
+use Rattle.ledger.specs.Store.{durationOf, metersOf, categoriesOf, datesOf, categoryOf, dayTypeOf, mpanAt, registrationAt, registrationsAt, isHeldAt, readingAt, dayEntryOf}
 use Rattle.ledger.proofs.Rows.{CellsAre}
+use Rattle.ledger.proofs.Days.{DaysAre}
 
 -- ---- the ledger by itself
 
@@ -111,6 +112,17 @@ shapes o pictures k d = shapeOf (category o) (k / periods o) (suc (k % periods o
 pub record CellsAgree (o : Opening) (cells : List ℕ) (pictures : ℕ → Option Picture) : Type 0 where
   pub are : CellsAre (categories o * periods o) (dates o) (dayType o) (λ d. isPicture (pictures d)) (shapes o pictures) cells
   pub long : cellsLength (categories o) (dates o) (periods o) ≤ length cells
+
+-- ---- days
+
+-- the entry of category c and date d that a recount of the ledger's cells gives; a date not run has 0
+unfoldable pub dayBy : Opening → (ℕ → Option Picture) → ℕ → ℕ → ℕ
+dayBy o pictures c d = cond (isPicture (pictures d)) (dayEntryOf (periods o) (λ k. cellBy o pictures d c (suc k))) 0
+
+-- kept = recounted
+pub record DaysAgree (o : Opening) (days : List ℕ) (pictures : ℕ → Option Picture) : Type 0 where
+  pub are : DaysAre (dates o) (categories o) (dayBy o pictures) days
+  pub long : daysLength (categories o) (dates o) ≤ length days
 
 -- ---- the ledger's state after accepted calls
 

@@ -13,12 +13,12 @@ use lib.ListN.{length}
 use borrow.Table.Steps.{cases}
 use borrow.Author.Tests.{eq-eqb, ne-eqb, eqb-true, eqb-false, leb-true, leb-false}
 use Rattle.metering.specs.Sum.{sumBelow, sumBelow-suc}
-use Rattle.ledger.specs.Method.{A, D, E, N, flagNumber, Fresh, Cell, blank, carried, cellFrom, movedCell, Day, latest, cellOn}
+use Rattle.ledger.specs.Method.{Fresh, Cell, blank, carried, cellFrom, movedCell, Day, latest, cellOn}
 use Rattle.ledger.specs.Table.{tabulate}
-use Rattle.ledger.specs.Store.{datesOf, rowLength, dayTypeOf, entryOf, flagNumberOf, isRunAt}
-use Rattle.ledger.specs.Calls.{carriedEntry, rowEntry, rowAt, putRow, follows, lastRun, inheritedFrom, comparedEntry, differing, Ran, followedEntry, inheritedBeyond, followRow, inheritedAfter, movedInRow, carryOn, movedByRow, settled}
+use Rattle.ledger.specs.Store.{categoriesOf, datesOf, periodsOf, rowLength, dayTypeOf, entryOf, flagNumberOf, isRunAt}
+use Rattle.ledger.specs.Calls.{carriedEntry, rowEntry, rowAt, putRow, Published, asPublished, publish, keptDays, follows, lastRun, inheritedFrom, comparedEntry, differing, Ran, followedEntry, inheritedBeyond, followRow, inheritedAfter, movedInRow, carryOn, movedByRow, settled}
 use Rattle.ledger.proofs.Lists.{below-suc, length-tabulate, getD-tabulate, sumBelow-cong, sumBelow-none, none-of-sum, sumBelow-more}
-use Rattle.ledger.proofs.Entries.{Small, SmallFresh, flag-entry, entry-some, moved-entry, unmoved, moved-same, carry-entry, row-entry, follow-entry, over-entry}
+use Rattle.ledger.proofs.Entries.{Small, SmallFresh, flag-some, entry-some, moved-entry, unmoved, moved-same, carry-entry, row-entry, follow-entry, over-entry}
 use Rattle.ledger.proofs.Walks.{length-putRow, row-put, row-kept, carryOn-end, carryOn-pass, carryOn-stop, carryOn-go}
 use Rattle.ledger.proofs.Columns.{dayIf, latest-other-type, latest-not-run, latest-run, cell-run, cell-not-run, latest-small, cell-small, latest-before, latest-other, latest-after, cell-alike}
 
@@ -40,23 +40,17 @@ columnCell dt run fresh k d = cellOn dt (columnDay run fresh k) d
 abbrev pub CellsAre : ℕ → ℕ → (ℕ → ℕ) → (ℕ → Bool) → (ℕ → ℕ → Fresh) → List ℕ → Type 0
 CellsAre n T dt run fresh cells = (x k : ℕ) → x < T → k < n → rowAt n cells x k ≡ codeIf (run x) (columnCell dt run fresh k x)
 
-flag-some : (a : Cell) → Small a → eqb (flagNumberOf (entryOf a)) 0 ≡ false
-flag-some a s = ne-eqb _ 0 (λ e. flag-not-0 (sym (flag-entry a s) ∙ e))
-  where
-    flag-not-0 : flagNumber (a .flag) ≡ 0 → ⊥
-    flag-not-0 e = (elim (a .flag) as (λ f. flagNumber f ≡ 0 → ⊥) [ A ↦ λ q. omega arith | D ↦ λ q. omega arith | E ↦ λ q. omega arith | N ↦ λ q. omega arith ]) e
-
 -- a date is run in the store where it is run
-pub run-at : (n : ℕ) (cells : List ℕ) (d : ℕ) (run : Bool) (a : Cell) → Small a → rowAt n cells d 0 ≡ codeIf run a → isRunAt n cells d ≡ run
+pub run-at : (n : ℕ) (cells : List ℕ) (d : ℕ) (run : Bool) (a : Cell) → rowAt n cells d 0 ≡ codeIf run a → isRunAt n cells d ≡ run
 unfolding isRunAt rowAt
-run-at n cells d true a s e = rw (← (add-zero (d * n)), e, flag-some a s)
-run-at n cells d false a s e = rw (← (add-zero (d * n)), e) (unfold flagNumberOf in refl)
+run-at n cells d true a e = rw (← (add-zero (d * n)), e, flag-some a)
+run-at n cells d false a e = rw (← (add-zero (d * n)), e) (unfold flagNumberOf in refl)
 
 -- what a run leaves: the new columns' cells, and how many of them all differ
 pub record RunLeaves (n T : ℕ) (dt : ℕ → ℕ) (runO runN : ℕ → Bool) (freshO freshN : ℕ → ℕ → Fresh) (L : ℕ) (r : Ran) : Type 0 where
-  pub cells-are : CellsAre n T dt runN freshN (r .cells)
+  pub cells-are : CellsAre n T dt runN freshN (r .published .cells)
   pub moved-is : r .moved ≡ sumBelow T (λ d. sumBelow n (λ k. movedCell (columnCell dt runO freshO k d) (columnCell dt runN freshN k d)))
-  pub as-long : length (r .cells) ≡ L
+  pub as-long : length (r .published .cells) ≡ L
 
 -- ---- a run at a date: the pictures before and after are alike but there
 
@@ -106,9 +100,9 @@ module _ (s : List ℕ) (n T : ℕ) (dt : ℕ → ℕ) (places : 0 < n) (few : T
 
   -- what a walk leaves
   record Good (L : ℕ) (r : Ran) : Type 0 where
-    cells-are : (x k : ℕ) → x < T → k < n → rowAt n (r .cells) x k ≡ codeIf (runN x) (cellN k x)
+    cells-are : (x k : ℕ) → x < T → k < n → rowAt n (r .published .cells) x k ≡ codeIf (runN x) (cellN k x)
     moved-is : r .moved ≡ sumBelow T movedOn
-    as-long : length (r .cells) ≡ L
+    as-long : length (r .published .cells) ≡ L
 
   -- the walk has come to date d: rows before it are new, those from it on are old
   record Come (L : ℕ) (inherited : ℕ → ℕ) (d : ℕ) (cells : List ℕ) (moved : ℕ) : Type 0 where
@@ -141,7 +135,7 @@ module _ (s : List ℕ) (n T : ℕ) (dt : ℕ → ℕ) (places : 0 < n) (few : T
     not-date e = let p = c .past in omega arith
 
     test-is : follows s (dt date) cells d ≡ (eqb (dt d) (dt date) && runO d)
-    test-is = rw (rowIs, types d h, run-at n cells d (runO d) (cellO 0 d) (cellO-small 0 d h) (c .old-rows d 0 (omega arith) h places))
+    test-is = rw (rowIs, types d h, run-at n cells d (runO d) (cellO 0 d) (c .old-rows d 0 (omega arith) h places))
 
     -- a date that is passed over
     pass-come : (eqb (dt d) (dt date) && runO d) ≡ false → Come L inherited (suc d) cells moved
@@ -251,8 +245,8 @@ module _ (s : List ℕ) (n T : ℕ) (dt : ℕ → ℕ) (places : 0 < n) (few : T
           gap : (y : ℕ) → d < y → suc d + (y - suc d) ≡ y
           gap y w = omega arith
 
-      stop-good : movedInRow n cells d inherited ≡ 0 → Good L (record { cells = cells; moved = moved })
-      stop-good z =
+      stop-good : movedInRow n cells d inherited ≡ 0 → (days : List ℕ) → Good L (record { published = record { cells = cells; days = days }; moved = moved })
+      stop-good z days =
           record {
             cells-are = λ x k l m.
                 cases (leb (suc x) d)
@@ -273,39 +267,40 @@ module _ (s : List ℕ) (n T : ℕ) (dt : ℕ → ℕ) (places : 0 < n) (few : T
               gap = omega arith
 
   -- the walk from date d to the last
-  walk : (L : ℕ) → T * n ≤ L → (m : ℕ) (inherited : ℕ → ℕ) (d : ℕ) (cells : List ℕ) (moved : ℕ) → d + m ≡ T → Come L inherited d cells moved →
-      Good L (carryOn putRow s (dt date) m inherited d cells moved)
-  walk L room zero inherited d cells moved e c =
+  walk : (L : ℕ) → T * n ≤ L → (m : ℕ) (inherited : ℕ → ℕ) (d : ℕ) (p : Published) (moved : ℕ) → d + m ≡ T → Come L inherited d (p .cells) moved →
+      Good L (carryOn publish s (dt date) m inherited d p moved)
+  walk L room zero inherited d p moved e c =
       let at-end : d ≡ T = sym (add-zero d) ∙ e in
-      rw (carryOn-end putRow s (dt date) 0 inherited d cells moved)
+      rw (carryOn-end publish s (dt date) 0 inherited d p moved)
       (record {
         cells-are = λ x k l m. c .new-rows x k (omega arith) m;
         moved-is = c .so-far ∙ ap (λ x. sumBelow x movedOn) at-end;
         as-long = c .as-long;
       })
-  walk L room (suc m) inherited d cells moved e c =
+  walk L room (suc m) inherited d p moved e c =
       let h : d < T = omega (arith, e) in
       let e′ : suc d + m ≡ T = suc-add d m ∙ sym (add-suc d m) ∙ e in
+      let test : follows s (dt date) (p .cells) d ≡ (eqb (dt d) (dt date) && runO d) = test-is L inherited d (p .cells) moved c h in
       cases (eqb (dt d) (dt date) && runO d)
       (λ b.
-      let p = and-eq-true-iff (eqb (dt d) (dt date)) (runO d) .0 b in
-      cases (eqb (movedInRow n cells d inherited) 0)
+      let q = and-eq-true-iff (eqb (dt d) (dt date)) (runO d) .0 b in
+      cases (eqb (movedInRow n (p .cells) d inherited) 0)
       (λ z.
-      rw (carryOn-stop putRow s (dt date) m inherited d cells moved (test-is L inherited d cells moved c h ∙ b) (rw rowIs z))
-      (stop-good L inherited d cells moved c h (p .0) (p .1) (eqb-true _ _ z)))
+      rw (carryOn-stop publish s (dt date) m inherited d p moved (test ∙ b) (rw rowIs z))
+      (stop-good L inherited d (p .cells) moved c h (q .0) (q .1) (eqb-true _ _ z) (p .days)))
       (λ z.
-      rw (carryOn-go putRow s (dt date) m inherited d cells moved (test-is L inherited d cells moved c h ∙ b) (rw rowIs z), rowIs)
-      (walk L room m _ (suc d) _ _ e′ (go-come L inherited d cells moved c h (p .0) (p .1) room))))
+      rw (carryOn-go publish s (dt date) m inherited d p moved (test ∙ b) (rw rowIs z), rowIs)
+      (walk L room m _ (suc d) _ _ e′ (go-come L inherited d (p .cells) moved c h (q .0) (q .1) room))))
       (λ b.
-      rw (carryOn-pass putRow s (dt date) m inherited d cells moved (test-is L inherited d cells moved c h ∙ b))
-      (walk L room m inherited (suc d) cells moved e′ (pass-come L inherited d cells moved c h b)))
+      rw (carryOn-pass publish s (dt date) m inherited d p moved (test ∙ b))
+      (walk L room m inherited (suc d) p moved e′ (pass-come L inherited d (p .cells) moved c h b)))
 
   -- ---- the date's own row
 
   module _ (L : ℕ) (room : T * n ≤ L) (cells : List ℕ) (long : length cells ≡ L) (are : CellsAre n T dt runO freshO cells) where
     run-is : (d : ℕ) → d < T → isRunAt n cells d ≡ runO d
     unfolding cellO
-    run-is d h = run-at n cells d (runO d) (cellO 0 d) (cellO-small 0 d h) (are d 0 h places)
+    run-is d h = run-at n cells d (runO d) (cellO 0 d) (are d 0 h places)
 
     old-entry : (d k : ℕ) → d < T → k < n → rowAt n cells d k ≡ codeIf (runO d) (cellO k d)
     unfolding cellO
@@ -405,9 +400,11 @@ module _ (s : List ℕ) (n T : ℕ) (dt : ℕ → ℕ) (places : 0 < n) (few : T
               (cell-run dt (columnDay runN freshN k) 0 date (freshN k date) (rw ranN)
               ∙ sym (latest-run dt (columnDay runN freshN k) (dt date) date (freshN k date) (rw ranN) (eq-eqb (dt date) (dt date) refl)))
 
-      ran-good : Good L (carryOn putRow s (dt date) (T - suc date) (λ k. carriedEntry (new k)) (suc date) (putRow n date (tabulate n new) cells) (differing n (λ k. comparedEntry (rowAt n cells date k)) new))
-      ran-good = walk L room (T - suc date) _ (suc date) _ _ (omega arith) row-come
+      ran-good : (days : List ℕ) → Good L (carryOn publish s (dt date) (T - suc date) (λ k. carriedEntry (new k)) (suc date) (record { cells = putRow n date (tabulate n new) cells; days = days }) (differing n (λ k. comparedEntry (rowAt n cells date k)) new))
+      ran-good days = walk L room (T - suc date) _ (suc date) _ _ (omega arith) row-come
 
-      pub run-good : RunLeaves n T dt runO runN freshO freshN L (settled putRow s new cells date)
+      pub run-good : (days : List ℕ) → RunLeaves n T dt runO runN freshO freshN L (settled publish s new (asPublished cells days) date)
       unfolding movedOn cellO cellN settled movedByRow
-      run-good = rw (rowIs, types date h, datesAre) (record { cells-are = ran-good .cells-are; moved-is = ran-good .moved-is; as-long = ran-good .as-long })
+      run-good days =
+          let good = ran-good (keptDays T (periodsOf s) date (tabulate n new) (categoriesOf s) days) in
+          rw (rowIs, types date h, datesAre) (record { cells-are = good .cells-are; moved-is = good .moved-is; as-long = good .as-long })

@@ -17,13 +17,15 @@ use Rattle.ledger.specs.Method.{Category, isSmart, sameFamily, ReadingSe
 use Rattle.ledger.specs.Checks.{Registration, later, inForceAfter, inForce}
 use Rattle.ledger.specs.Sizes.{cellsLength}
 use Rattle.ledger.specs.Ledger.{Opening, categories, dates, periods, category, dayType, Meter, Ledger, at, dayOf, cellBy, isPicture, heldSetsOf, pictureOf, movedBetween}
-use Rattle.ledger.specs.Store.{periodsOf, rowLength, categoryOf}
-use Rattle.ledger.specs.Calls.{familyTally, freshAt, rowEntry, lastRun, inheritedFrom, newRow, ranFrom}
-use Rattle.ledger.proofs.Lists.{sumBelow-cong, sumBelow-rows}
-use Rattle.ledger.proofs.Entries.{SmallFresh}
-use Rattle.ledger.proofs.Columns.{dayIf}
-use Rattle.ledger.proofs.Rows.{columnCell, RunLeaves, run-good}
-use Rattle.ledger.proofs.Relation.{Valid, SoundRegistrations, SoundMeters, SoundPicture, SettingsAgree, MetersAgree, ReadingsAgree, shapeOf, shapes, CellsAgree, Sound}
+use Rattle.ledger.specs.Store.{periodsOf, rowLength, categoryOf, cellOfEntry, isRunAt}
+use Rattle.ledger.specs.Calls.{familyTally, freshAt, rowEntry, rowAt, lastRun, inheritedFrom, newRow, ranFrom, asPublished}
+use Rattle.ledger.proofs.Days.{days-cong}
+use Rattle.ledger.proofs.Kept.{day-cong, dayAt, KeptIn, ran-keeps}
+use Rattle.ledger.proofs.Lists.{sumBelow-cong, sumBelow-rows, block-below}
+use Rattle.ledger.proofs.Entries.{SmallFresh, cell-entry}
+use Rattle.ledger.proofs.Columns.{dayIf, cell-small}
+use Rattle.ledger.proofs.Rows.{columnCell, run-at, RunLeaves, run-good}
+use Rattle.ledger.proofs.Relation.{Valid, SoundRegistrations, SoundMeters, SoundPicture, SettingsAgree, MetersAgree, ReadingsAgree, shapeOf, shapes, CellsAgree, dayBy, DaysAgree, Sound}
 use Rattle.ledger.proofs.Tallies.{count-le, sum-le, enough-some, average-small, family-total, tally-is}
 
 -- ---- own shapes have room
@@ -124,7 +126,7 @@ day-is : (categoryOf : ℕ → Category) (c j : ℕ) (p : Option Picture) → da
 day-is categoryOf c j none = refl
 day-is categoryOf c j (some p) = refl
 
-pub column-is : (o : Opening) (pictures : ℕ → Option Picture) (c p d : ℕ) → p < periods o →
+column-is : (o : Opening) (pictures : ℕ → Option Picture) (c p d : ℕ) → p < periods o →
     columnCell (dayType o) (λ x. isPicture (pictures x)) (shapes o pictures) (c * periods o + p) d ≡ cellBy o pictures d c (suc p)
 unfolding cellBy
 column-is o pictures c p d h =
@@ -134,7 +136,7 @@ pub valid-periods : (o : Opening) → Valid o → (48 ≤ periods o) × (periods
 unfolding periodsPerDay
 valid-periods o v = ⊎-elim (λ e. rw e (omega arith, omega arith)) (λ e. rw e (omega arith, omega arith)) (v .duration)
 
-pub shapes-small : (o : Opening) (pictures : ℕ → Option Picture) →
+shapes-small : (o : Opening) (pictures : ℕ → Option Picture) →
     ((d : ℕ) (p : Picture) → pictures d ≡ some p → SoundPicture (categories o) p × (length p ≤ 1024)) → (k x : ℕ) → SmallFresh (shapes o pictures k x)
 shapes-small o pictures sound k x = go (pictures x) refl
   where
@@ -142,11 +144,49 @@ shapes-small o pictures sound k x = go (pictures x) refl
     go none e = tt
     go (some p) e = picture-small (categories o) (category o) p (sound x p e .0) (sound x p e .1) (k / periods o) (suc (k % periods o))
 
+-- ---- a recount of the store's cells is one of the ledger's
+
+module _ (o : Opening) (s cells : List ℕ) (agree : SettingsAgree o s) (pictures : ℕ → Option Picture) (valid : Valid o)
+    (sound : (d : ℕ) (p : Picture) → pictures d ≡ some p → SoundPicture (categories o) p × (length p ≤ 1024)) (cellsAgree : CellsAgree o cells pictures) where
+  row-length : rowLength s ≡ categories o * periods o
+  unfolding rowLength periodsOf
+  row-length = rw (agree .categories-are, agree .duration)
+
+  some-places : 0 < categories o * periods o
+  some-places =
+      let p = valid-periods o valid in
+      let c = valid .categories-are in
+      omega (arith, mul-le-mul-right (periods o) (c .0))
+
+  pub ran-is : (d : ℕ) → d < dates o → isRunAt (rowLength s) cells d ≡ isPicture (pictures d)
+  ran-is d h =
+      rw row-length
+      (run-at (categories o * periods o) cells d (isPicture (pictures d)) (columnCell (dayType o) (λ x. isPicture (pictures x)) (shapes o pictures) 0 d) (cellsAgree .are d 0 h some-places))
+
+  pub entry-is : (d c k : ℕ) → d < dates o → c < categories o → k < periods o → isPicture (pictures d) ≡ true →
+      cellOfEntry (rowAt (categories o * periods o) cells d (c * periods o + k)) ≡ cellBy o pictures d c (suc k)
+  entry-is d c k hd hc hk r =
+      let t = valid .dates-are in
+      let place = c * periods o + k in
+      ap cellOfEntry (cellsAgree .are d place hd (block-below (periods o) (categories o) c k hc hk) ∙ rw r)
+      ∙ cell-entry (columnCell (dayType o) (λ x. isPicture (pictures x)) (shapes o pictures) place d)
+      (cell-small (dayType o) (λ x. isPicture (pictures x)) (shapes o pictures place) (shapes-small o pictures sound place) d (omega arith))
+      ∙ column-is o pictures c k d hk
+
+  recount-is : (c d : ℕ) → c < categories o → d < dates o → dayAt (rowLength s) (periodsOf s) cells c d ≡ dayBy o pictures c d
+  unfolding dayAt dayBy periodsOf
+  recount-is c d hc hd =
+      rw (ran-is d hd)
+      (cases (isPicture (pictures d))
+      (λ r. rw (r, agree .duration, row-length) (day-cong (periods o) _ _ (λ k l. entry-is d c k hd hc l r)))
+      (λ r. rw r))
+
 -- ---- a run
 
-module _ (l : Ledger) (s meters readings cells : List ℕ) (sound : Sound l) (agree : SettingsAgree (l .opening) s)
+module _ (l : Ledger) (s meters readings cells days : List ℕ) (sound : Sound l) (agree : SettingsAgree (l .opening) s)
     (metersAgree : MetersAgree (l .opening) meters (l .known)) (readingsAgree : ReadingsAgree (l .opening) readings (l .known))
-    (cellsAgree : CellsAgree (l .opening) cells (l .pictures)) (date : ℕ) (h : date < dates (l .opening)) where
+    (cellsAgree : CellsAgree (l .opening) cells (l .pictures)) (daysAgree : DaysAgree (l .opening) days (l .pictures)) (date : ℕ)
+    (h : date < dates (l .opening)) where
   pub after-sound : (d : ℕ) (p : Picture) → at date (some (pictureOf date (l .known))) (l .pictures) d ≡ some p → SoundPicture (categories (l .opening)) p × (length p ≤ 1024)
   unfolding at
   after-sound d p e =
@@ -160,14 +200,10 @@ module _ (l : Ledger) (s meters readings cells : List ℕ) (sound : Sound l) (ag
       (λ q. sound .pictures-are d p (rw q at e))
 
   row-is : rowLength s ≡ categories (l .opening) * periods (l .opening)
-  unfolding rowLength periodsOf
-  row-is = rw (agree .categories-are, agree .duration)
+  row-is = row-length (l .opening) s cells agree (l .pictures) (sound .valid) (sound .pictures-are) cellsAgree
 
   places : 0 < categories (l .opening) * periods (l .opening)
-  places =
-      let p = valid-periods (l .opening) (sound .valid) in
-      let c = sound .valid .categories-are in
-      omega (arith, mul-le-mul-right (periods (l .opening)) (c .0))
+  places = some-places (l .opening) s cells agree (l .pictures) (sound .valid) (sound .pictures-are) cellsAgree
 
   run-alike : (x : ℕ) → x ≢ date → isPicture (l .pictures x) ≡ isPicture (at date (some (pictureOf date (l .known))) (l .pictures) x)
   unfolding at
@@ -211,7 +247,7 @@ module _ (l : Ledger) (s meters readings cells : List ℕ) (sound : Sound l) (ag
       RunLeaves (categories (l .opening) * periods (l .opening)) (dates (l .opening)) (dayType (l .opening))
       (λ d. isPicture (l .pictures d)) (λ d. isPicture (at date (some (pictureOf date (l .known))) (l .pictures) d))
       (shapes (l .opening) (l .pictures)) (shapes (l .opening) (at date (some (pictureOf date (l .known))) (l .pictures)))
-      (length cells) (ranFrom s meters readings cells date)
+      (length cells) (ranFrom s meters readings cells days date)
   unfolding ranFrom
   run-leaves =
       run-good s (categories (l .opening) * periods (l .opening)) (dates (l .opening)) (dayType (l .opening)) places few-dates row-is (agree .types)
@@ -219,18 +255,18 @@ module _ (l : Ledger) (s meters readings cells : List ℕ) (sound : Sound l) (ag
       (shapes (l .opening) (l .pictures)) (shapes (l .opening) (at date (some (pictureOf date (l .known))) (l .pictures)))
       (shapes-small (l .opening) (l .pictures) (sound .pictures-are))
       (shapes-small (l .opening) (at date (some (pictureOf date (l .known))) (l .pictures)) after-sound)
-      date run-alike shapes-alike (length cells) room cells refl (cellsAgree .are) (agree .dates-are) h new-run (newRow s meters readings cells date) new-is
+      date run-alike shapes-alike (length cells) room cells refl (cellsAgree .are) (agree .dates-are) h new-run (newRow s meters readings cells date) new-is days
 
   -- the cells after it are those of the new pictures
-  pub run-agrees : CellsAgree (l .opening) (ranFrom s meters readings cells date .cells) (at date (some (pictureOf date (l .known))) (l .pictures))
+  pub run-agrees : CellsAgree (l .opening) (ranFrom s meters readings cells days date .published .cells) (at date (some (pictureOf date (l .known))) (l .pictures))
   run-agrees = record { are = run-leaves .cells-are; long = rw (run-leaves .as-long) (cellsAgree .long) }
 
-  pub run-length : length (ranFrom s meters readings cells date .cells) ≡ length cells
+  pub run-length : length (ranFrom s meters readings cells days date .published .cells) ≡ length cells
   run-length = run-leaves .as-long
 
   -- the number it reports is that of the ledger's cells that differ
   pub run-moved :
-      ranFrom s meters readings cells date .moved
+      ranFrom s meters readings cells days date .moved
       ≡ movedBetween (l .opening) (cellBy (l .opening) (l .pictures)) (cellBy (l .opening) (at date (some (pictureOf date (l .known))) (l .pictures)))
   unfolding movedBetween
   run-moved =
@@ -243,3 +279,31 @@ module _ (l : Ledger) (s meters readings cells : List ℕ) (sound : Sound l) (ag
       sumBelow-cong (periods (l .opening)) _ _
       (λ p w.
       rw (column-is (l .opening) (l .pictures) c p d w, column-is (l .opening) (at date (some (pictureOf date (l .known))) (l .pictures)) c p d w))))
+
+  few-periods : periodsOf s ≤ 96
+  unfolding periodsOf
+  few-periods = rw (agree .duration) (valid-periods (l .opening) (sound .valid) .1)
+
+  -- kept = recounted, before the run and after it
+  kept : KeptIn s (length days) (asPublished cells days)
+  kept =
+      record {
+        are = rw (agree .dates-are, agree .categories-are) (days-cong (dates (l .opening)) (categories (l .opening)) _ _ days (λ c y hc hy. sym (recount-is (l .opening) s cells agree (l .pictures) (sound .valid) (sound .pictures-are) cellsAgree c y hc hy)) (daysAgree .are));
+        as-long = refl;
+        room = rw (agree .dates-are, row-is) room;
+      }
+
+  run-keeps : KeptIn s (length days) (ranFrom s meters readings cells days date .published)
+  run-keeps =
+      ran-keeps s few-periods (rw row-is places) (length days) (rw (agree .categories-are, agree .dates-are) (daysAgree .long)) meters readings cells days date
+      (rw (agree .dates-are) h) kept
+
+  pub run-days-length : length (ranFrom s meters readings cells days date .published .days) ≡ length days
+  run-days-length = run-keeps .as-long
+
+  pub run-days : DaysAgree (l .opening) (ranFrom s meters readings cells days date .published .days) (at date (some (pictureOf date (l .known))) (l .pictures))
+  run-days =
+      record {
+        are = days-cong (dates (l .opening)) (categories (l .opening)) _ _ (ranFrom s meters readings cells days date .published .days) (λ c y hc hy. recount-is (l .opening) s (ranFrom s meters readings cells days date .published .cells) agree (at date (some (pictureOf date (l .known))) (l .pictures)) (sound .valid) after-sound run-agrees c y hc hy) (rw (agree .dates-are, agree .categories-are) at (run-keeps .are));
+        long = rw run-days-length (daysAgree .long);
+      }

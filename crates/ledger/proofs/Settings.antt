@@ -13,10 +13,10 @@ use borrow.Author.Tests.{leb-true, leb-false, le-leb, lt-leb, lt-ltb, le-ltb}
 use Rattle.metering.specs.Range.{between, metersInRange, categoriesInRange, datesInRange}
 use Rattle.metering.specs.Calendar.{durationKnown}
 use Rattle.ledger.specs.Method.{categoryAt}
-use Rattle.ledger.specs.Sizes.{headerLength, settingsLength, metersLength, readingsLength, cellsLength}
-use Rattle.ledger.specs.Ledger.{Opening, categories, dates, periods, settingsShort, metersShort, cellsShort, anyShort}
-use Rattle.ledger.specs.Store.{word, durationOf, metersOf, categoriesOf, datesOf, periodsOf, categoryOf, dayTypeOf, isOpened, settingsReady, metersReady, readingsReady, cellsReady}
-use Rattle.ledger.specs.Calls.{metersUnready, runUnready, cellsUnready}
+use Rattle.ledger.specs.Sizes.{headerLength, settingsLength, metersLength, readingsLength, cellsLength, daysLength}
+use Rattle.ledger.specs.Ledger.{Opening, categories, dates, periods, settingsShort, metersShort, cellsShort, daysShort, anyShort}
+use Rattle.ledger.specs.Store.{word, durationOf, metersOf, categoriesOf, datesOf, periodsOf, categoryOf, dayTypeOf, isOpened, settingsReady, metersReady, readingsReady, cellsReady, daysReady}
+use Rattle.ledger.specs.Calls.{metersUnready, runUnready, cellsUnready, daysUnready}
 use Rattle.ledger.proofs.Lists.{getD-cut}
 use Rattle.ledger.proofs.Relation.{Valid, SettingsAgree}
 
@@ -151,22 +151,33 @@ module _ (o : Opening) (s : List ℕ) (n : ℕ) (v : Valid o) (a : SettingsAgree
       let c = settings-cut o s n a l in
       rw (c .categories-are, c .dates-are, c .duration) (not-leb (cellsLength (categories o) (dates o) (periods o)) (length x))
 
-  pub meters-unready : (m r : List ℕ) (k : ℕ) → metersUnready (take n s) m r ≡ metersShort o (record { settings = length (take n s); meters = length m; readings = length r; cells = k })
+  days-part : (x : List ℕ) → settingsLength (categories o) (dates o) ≤ length (take n s) → not (daysReady (take n s) x) ≡ ltb (length x) (daysLength (categories o) (dates o))
+  unfolding daysReady
+  days-part x l =
+      let c = settings-cut o s n a l in
+      rw (c .categories-are, c .dates-are) (not-leb (daysLength (categories o) (dates o)) (length x))
+
+  pub meters-unready : (m r : List ℕ) (k j : ℕ) → metersUnready (take n s) m r ≡ metersShort o (record { settings = length (take n s); meters = length m; readings = length r; cells = k; days = j })
   unfolding metersUnready metersShort settingsShort
-  meters-unready m r k =
+  meters-unready m r k j =
       rw (not-and (settingsReady (take n s) && metersReady (take n s) m) (readingsReady (take n s) r), not-and (settingsReady (take n s)) (metersReady (take n s) m))
       (simp or-assoc (guard _ _ (λ l. rw (meters-part m l, readings-part r l))))
 
-  pub cells-unready : (x : List ℕ) (i k : ℕ) → cellsUnready (take n s) x ≡ cellsShort o (record { settings = length (take n s); meters = i; readings = k; cells = length x })
+  pub cells-unready : (x : List ℕ) (i k j : ℕ) → cellsUnready (take n s) x ≡ cellsShort o (record { settings = length (take n s); meters = i; readings = k; cells = length x; days = j })
   unfolding cellsUnready cellsShort settingsShort
-  cells-unready x i k = rw (not-and (settingsReady (take n s)) (cellsReady (take n s) x)) (guard _ _ (λ l. cells-part x l))
+  cells-unready x i k j = rw (not-and (settingsReady (take n s)) (cellsReady (take n s) x)) (guard _ _ (λ l. cells-part x l))
 
-  pub run-unready : (m r x : List ℕ) → runUnready (take n s) m r x ≡ anyShort o (record { settings = length (take n s); meters = length m; readings = length r; cells = length x })
+  pub days-unready : (x : List ℕ) (i k j : ℕ) → daysUnready (take n s) x ≡ daysShort o (record { settings = length (take n s); meters = i; readings = k; cells = j; days = length x })
+  unfolding daysUnready daysShort settingsShort
+  days-unready x i k j = rw (not-and (settingsReady (take n s)) (daysReady (take n s) x)) (guard _ _ (λ l. days-part x l))
+
+  pub run-unready : (m r x y : List ℕ) → runUnready (take n s) m r x y ≡ anyShort o (record { settings = length (take n s); meters = length m; readings = length r; cells = length x; days = length y })
   unfolding runUnready anyShort metersShort settingsShort
-  run-unready m r x =
+  run-unready m r x y =
       rw (
+        not-and (settingsReady (take n s) && metersReady (take n s) m && readingsReady (take n s) r && cellsReady (take n s) x) (daysReady (take n s) y),
         not-and (settingsReady (take n s) && metersReady (take n s) m && readingsReady (take n s) r) (cellsReady (take n s) x),
         not-and (settingsReady (take n s) && metersReady (take n s) m) (readingsReady (take n s) r),
         not-and (settingsReady (take n s)) (metersReady (take n s) m),
       )
-      (simp or-assoc (guard _ _ (λ l. rw (meters-part m l, readings-part r l, cells-part x l))))
+      (simp or-assoc (guard _ _ (λ l. rw (meters-part m l, readings-part r l, cells-part x l, days-part y l))))

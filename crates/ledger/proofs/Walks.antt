@@ -3,7 +3,7 @@ use Prim.Native.Nat.{ℕ, zero, suc, _+_, _*_, _-_, _≤_, _<_}
 use mathlib.Core.Path.{_≡_, refl, sym, ap, ap₂, _∙_, fun-ext}
 use mathlib.Core.Logic.{_≢_}
 use mathlib.Core.Bool.{true, false}
-use mathlib.Core.List.{List}
+use mathlib.Core.List.{List, []}
 use native.Mathlib.Omega.{arith}
 use native.Mathlib.Nat.{add-suc, suc-add, suc-mul, mul-le-mul-right}
 use lib.Arith.{lt-of-le-ne}
@@ -14,7 +14,7 @@ use borrow.Table.Steps.{cases}
 use borrow.Author.Tests.{leb-true, leb-false}
 use Rattle.ledger.specs.Table.{tabulate}
 use Rattle.ledger.specs.Store.{datesOf, rowLength, dayTypeOf, isRunAt}
-use Rattle.ledger.specs.Calls.{carriedEntry, rowAt, putRow, leaveRow, Placing, follows, comparedEntry, differing, followRow, inheritedAfter, movedInRow, carryOn, movedByRow, settled, newRow, ranFrom, movedFrom, movedEntry}
+use Rattle.ledger.specs.Calls.{carriedEntry, rowAt, putRow, Published, asPublished, Placing, publish, countOnly, follows, comparedEntry, differing, followRow, inheritedAfter, movedInRow, carryOn, movedByRow, settled, newRow, ranFrom, movedFrom, movedEntry}
 use Rattle.ledger.proofs.Lists.{getD-sets-below, getD-sets-above, getD-sets-at, length-tabulate, tabulate-ext, sumBelow-cong}
 
 -- ---- a row put in place
@@ -67,23 +67,23 @@ module _ (n d : ℕ) (row cells : List ℕ) (long : length row ≡ n) (fits : d 
 
 -- ---- a turn of the walk
 
-module _ (place : Placing) (s : List ℕ) (t m : ℕ) (inherited : ℕ → ℕ) (d : ℕ) (cells : List ℕ) (moved : ℕ) where
-  pub carryOn-end : carryOn place s t 0 inherited d cells moved ≡ record { cells = cells; moved = moved }
+module _ (place : Placing) (s : List ℕ) (t m : ℕ) (inherited : ℕ → ℕ) (d : ℕ) (p : Published) (moved : ℕ) where
+  pub carryOn-end : carryOn place s t 0 inherited d p moved ≡ record { published = p; moved = moved }
   unfolding carryOn
   carryOn-end = refl
 
-  pub carryOn-pass : follows s t cells d ≡ false → carryOn place s t (suc m) inherited d cells moved ≡ carryOn place s t m inherited (suc d) cells moved
+  pub carryOn-pass : follows s t (p .cells) d ≡ false → carryOn place s t (suc m) inherited d p moved ≡ carryOn place s t m inherited (suc d) p moved
   unfolding carryOn
   carryOn-pass e = rw e
 
-  pub carryOn-stop : follows s t cells d ≡ true → eqb (movedInRow (rowLength s) cells d inherited) 0 ≡ true →
-      carryOn place s t (suc m) inherited d cells moved ≡ record { cells = cells; moved = moved }
+  pub carryOn-stop : follows s t (p .cells) d ≡ true → eqb (movedInRow (rowLength s) (p .cells) d inherited) 0 ≡ true →
+      carryOn place s t (suc m) inherited d p moved ≡ record { published = p; moved = moved }
   unfolding carryOn
   carryOn-stop e q = rw (e, q)
 
-  pub carryOn-go : follows s t cells d ≡ true → eqb (movedInRow (rowLength s) cells d inherited) 0 ≡ false →
-      carryOn place s t (suc m) inherited d cells moved
-      ≡ carryOn place s t m (inheritedAfter (rowLength s) cells d inherited) (suc d) (place (rowLength s) d (tabulate (rowLength s) (followRow (rowLength s) cells d inherited)) cells) (moved + movedInRow (rowLength s) cells d inherited)
+  pub carryOn-go : follows s t (p .cells) d ≡ true → eqb (movedInRow (rowLength s) (p .cells) d inherited) 0 ≡ false →
+      carryOn place s t (suc m) inherited d p moved
+      ≡ carryOn place s t m (inheritedAfter (rowLength s) (p .cells) d inherited) (suc d) (place s d (tabulate (rowLength s) (followRow (rowLength s) (p .cells) d inherited)) p) (moved + movedInRow (rowLength s) (p .cells) d inherited)
   unfolding carryOn
   carryOn-go e q = rw (e, q)
 
@@ -103,39 +103,35 @@ module _ (n d : ℕ) (cells : List ℕ) (f g : ℕ → ℕ) (same : (k : ℕ) �
   moved-same = sumBelow-cong n _ _ (λ k l. rw (follow-same k l))
 
 module _ (place : Placing) (s : List ℕ) where
-  pub carryOn-same : (t m : ℕ) (f g : ℕ → ℕ) (d : ℕ) (cells : List ℕ) (moved : ℕ) → ((k : ℕ) → k < rowLength s → f k ≡ g k) →
-      carryOn place s t m f d cells moved ≡ carryOn place s t m g d cells moved
-  carryOn-same t zero f g d cells moved same = carryOn-end place s t 0 f d cells moved ∙ sym (carryOn-end place s t 0 g d cells moved)
-  carryOn-same t (suc m) f g d cells moved same =
+  pub carryOn-same : (t m : ℕ) (f g : ℕ → ℕ) (d : ℕ) (p : Published) (moved : ℕ) → ((k : ℕ) → k < rowLength s → f k ≡ g k) →
+      carryOn place s t m f d p moved ≡ carryOn place s t m g d p moved
+  carryOn-same t zero f g d p moved same = carryOn-end place s t 0 f d p moved ∙ sym (carryOn-end place s t 0 g d p moved)
+  carryOn-same t (suc m) f g d p moved same =
       let n : ℕ = rowLength s in
-      let e = moved-same n d cells f g same in
-      cases (follows s t cells d)
+      let e = moved-same n d (p .cells) f g same in
+      cases (follows s t (p .cells) d)
       (λ b.
-      cases (eqb (movedInRow n cells d g) 0)
-      (λ z. carryOn-stop place s t m f d cells moved b (rw e z) ∙ sym (carryOn-stop place s t m g d cells moved b z))
+      cases (eqb (movedInRow n (p .cells) d g) 0)
+      (λ z. carryOn-stop place s t m f d p moved b (rw e z) ∙ sym (carryOn-stop place s t m g d p moved b z))
       (λ z.
-      carryOn-go place s t m f d cells moved b (rw e z)
-      ∙ carryOn-same t m _ (inheritedAfter n cells d g) (suc d) _ _ (after-same n d cells f g same)
-      ∙ ap₂ (λ (row : List ℕ) (x : ℕ). carryOn place s t m (inheritedAfter n cells d g) (suc d) (place n d row cells) (moved + x))
-      (tabulate-ext n _ _ (follow-same n d cells f g same)) e
-      ∙ sym (carryOn-go place s t m g d cells moved b z)))
-      (λ b. carryOn-pass place s t m f d cells moved b ∙ carryOn-same t m f g (suc d) cells moved same ∙ sym (carryOn-pass place s t m g d cells moved b))
+      carryOn-go place s t m f d p moved b (rw e z)
+      ∙ carryOn-same t m _ (inheritedAfter n (p .cells) d g) (suc d) _ _ (after-same n d (p .cells) f g same)
+      ∙ ap₂ (λ (row : List ℕ) (x : ℕ). carryOn place s t m (inheritedAfter n (p .cells) d g) (suc d) (place s d row p) (moved + x))
+      (tabulate-ext n _ _ (follow-same n d (p .cells) f g same)) e
+      ∙ sym (carryOn-go place s t m g d p moved b z)))
+      (λ b. carryOn-pass place s t m f d p moved b ∙ carryOn-same t m f g (suc d) p moved same ∙ sym (carryOn-pass place s t m g d p moved b))
 
-  pub settled-same : (f g : ℕ → ℕ) (cells : List ℕ) (date : ℕ) → ((k : ℕ) → k < rowLength s → f k ≡ g k) →
-      settled place s f cells date ≡ settled place s g cells date
+  pub settled-same : (f g : ℕ → ℕ) (p : Published) (date : ℕ) → ((k : ℕ) → k < rowLength s → f k ≡ g k) →
+      settled place s f p date ≡ settled place s g p date
   unfolding settled movedByRow differing
-  settled-same f g cells date same =
+  settled-same f g p date same =
       rw (
         tabulate-ext (rowLength s) f g same,
-        sumBelow-cong (rowLength s) (λ k. movedEntry (comparedEntry (rowAt (rowLength s) cells date k)) (f k)) (λ k. movedEntry (comparedEntry (rowAt (rowLength s) cells date k)) (g k)) (λ k l. rw (same k l)),
+        sumBelow-cong (rowLength s) (λ k. movedEntry (comparedEntry (rowAt (rowLength s) (p .cells) date k)) (f k)) (λ k. movedEntry (comparedEntry (rowAt (rowLength s) (p .cells) date k)) (g k)) (λ k l. rw (same k l)),
       )
       (carryOn-same (dayTypeOf s date) (datesOf s - suc date) _ _ (suc date) _ _ (λ k l. ap carriedEntry (same k l)))
 
 -- ---- a count finds what a run moves: a row is read before it is written, and rows written earlier do not touch it
-
-leave-is : (n d : ℕ) (row cells : List ℕ) → leaveRow n d row cells ≡ cells
-unfolding leaveRow
-leave-is n d row cells = refl
 
 -- cells that are alike from date d on
 abbrev AlikeFrom : ℕ → ℕ → List ℕ → List ℕ → Type 0
@@ -166,11 +162,13 @@ module _ (n d : ℕ) (written cells : List ℕ) (alike : AlikeFrom n d written c
   put-alike row long fits j l = put-above n d row written long fits j (omega (arith, suc-mul d n)) ∙ next-alike j l
 
 module _ (s : List ℕ) (t : ℕ) where
-  count-finds : (m : ℕ) (inherited : ℕ → ℕ) (d : ℕ) (written cells : List ℕ) (moved : ℕ) → (d + m) * rowLength s ≤ length written → AlikeFrom (rowLength s) d written cells →
-      carryOn leaveRow s t m inherited d cells moved .moved ≡ carryOn putRow s t m inherited d written moved .moved
-  count-finds zero inherited d written cells moved fits alike = rw (carryOn-end leaveRow s t 0 inherited d cells moved, carryOn-end putRow s t 0 inherited d written moved)
-  count-finds (suc m) inherited d written cells moved fits alike =
+  count-finds : (m : ℕ) (inherited : ℕ → ℕ) (d : ℕ) (q p : Published) (moved : ℕ) → (d + m) * rowLength s ≤ length (q .cells) → AlikeFrom (rowLength s) d (q .cells) (p .cells) →
+      carryOn countOnly s t m inherited d p moved .moved ≡ carryOn publish s t m inherited d q moved .moved
+  count-finds zero inherited d q p moved fits alike = rw (carryOn-end countOnly s t 0 inherited d p moved, carryOn-end publish s t 0 inherited d q moved)
+  count-finds (suc m) inherited d q p moved fits alike =
       let n : ℕ = rowLength s in
+      let written = q .cells in
+      let cells = p .cells in
       let test : follows s t written d ≡ follows s t cells d = rw (run-alike n d written cells alike) in
       let e : movedInRow n written d inherited ≡ movedInRow n cells d inherited = moved-alike n d written cells alike inherited in
       let rest : (suc d + m) * n ≤ length written = rw (suc-add d m, ← (add-suc d m)) fits in
@@ -178,34 +176,32 @@ module _ (s : List ℕ) (t : ℕ) where
       cases (follows s t cells d)
       (λ b.
       cases (eqb (movedInRow n cells d inherited) 0)
-      (λ z. rw (carryOn-stop leaveRow s t m inherited d cells moved b z, carryOn-stop putRow s t m inherited d written moved (test ∙ b) (rw e z)))
+      (λ z. rw (carryOn-stop countOnly s t m inherited d p moved b z, carryOn-stop publish s t m inherited d q moved (test ∙ b) (rw e z)))
       (λ z.
       let row = tabulate n (followRow n written d inherited) in
       let long : length row ≡ n = length-tabulate n (followRow n written d inherited) in
-      rw (carryOn-go leaveRow s t m inherited d cells moved b z, carryOn-go putRow s t m inherited d written moved (test ∙ b) (rw e z), e, after-alike n d written cells alike inherited, leave-is)
-      (count-finds m (inheritedAfter n cells d inherited) (suc d) (putRow n d row written) cells _ (rw (length-putRow n d row written long here) rest) (put-alike n d written cells alike row long here))))
+      rw (carryOn-go countOnly s t m inherited d p moved b z, carryOn-go publish s t m inherited d q moved (test ∙ b) (rw e z), e, after-alike n d written cells alike inherited)
+      (count-finds m (inheritedAfter n cells d inherited) (suc d) (publish s d row q) p _ (rw (length-putRow n d row written long here) rest) (put-alike n d written cells alike row long here))))
       (λ b.
-      rw (carryOn-pass leaveRow s t m inherited d cells moved b, carryOn-pass putRow s t m inherited d written moved (test ∙ b))
-      (count-finds m inherited (suc d) written cells moved rest (next-alike n d written cells alike)))
+      rw (carryOn-pass countOnly s t m inherited d p moved b, carryOn-pass publish s t m inherited d q moved (test ∙ b))
+      (count-finds m inherited (suc d) q p moved rest (next-alike n d written cells alike)))
     where
       more : (d m : ℕ) → suc d ≤ suc d + m
       more d m = omega arith
 
-settled-count : (s : List ℕ) (new : ℕ → ℕ) (cells : List ℕ) (date : ℕ) → date < datesOf s → datesOf s * rowLength s ≤ length cells →
-    settled leaveRow s new cells date .moved ≡ settled putRow s new cells date .moved
-unfolding settled
-settled-count s new cells date h room =
+-- what a run reports can be counted before it, without the days
+pub counted-first : (s meters readings cells days : List ℕ) (date : ℕ) → date < datesOf s → datesOf s * rowLength s ≤ length cells →
+    movedFrom s meters readings cells date ≡ ranFrom s meters readings cells days date .moved
+unfolding movedFrom ranFrom settled
+counted-first s meters readings cells days date h room =
     let n : ℕ = rowLength s in
+    let new = newRow s meters readings cells date in
     let long : length (tabulate n new) ≡ n = length-tabulate n new in
     let here : date * n + n ≤ length cells = omega (arith, suc-mul date n, room, mul-le-mul-right n h) in
     let all : suc date + (datesOf s - suc date) ≡ datesOf s = omega arith in
-    rw (leave-is n date (tabulate n new) cells)
-    (count-finds s (dayTypeOf s date) (datesOf s - suc date) (λ k. carriedEntry (new k)) (suc date) (putRow n date (tabulate n new) cells) cells (movedByRow n cells date new)
+    count-finds s (dayTypeOf s date) (datesOf s - suc date) (λ k. carriedEntry (new k)) (suc date)
+    (publish s date (tabulate n new) (asPublished cells days))
+    (asPublished cells [])
+    (movedByRow n cells date new)
     (rw (all, length-putRow n date (tabulate n new) cells long here) room)
-    (put-alike n date cells cells (λ j l. refl) (tabulate n new) long here))
-
--- what a run reports can be counted before it
-pub counted-first : (s meters readings cells : List ℕ) (date : ℕ) → date < datesOf s → datesOf s * rowLength s ≤ length cells →
-    movedFrom s meters readings cells date ≡ ranFrom s meters readings cells date .moved
-unfolding movedFrom ranFrom
-counted-first s meters readings cells date h room = settled-count s (newRow s meters readings cells date) cells date h room
+    (put-alike n date cells cells (λ j l. refl) (tabulate n new) long here)

@@ -11,14 +11,14 @@ use lib.IntN.{ℤ, pos, negℤ, _+ℤ_, _-ℤ_}
 use Rattle.metering.specs.Mpan.{mpanValid}
 use Rattle.metering.specs.Calendar.{durationKnown, periodsPerDay}
 use Rattle.metering.specs.Sum.{sumBelow}
-use Rattle.ledger.specs.Method.{Category, sameFamily, Picture, absent, freshIn, Flag, A, D, E, N, flagNumber, Cell, carried, cellFrom, latest}
+use Rattle.ledger.specs.Method.{Category, sameFamily, Picture, absent, freshIn, Flag, A, D, E, N, flagNumber, Cell, carried, cellFrom, latest, Coverage}
 use Rattle.ledger.specs.Table.{tabulate, chosenBelow}
 use Rattle.ledger.specs.Net.{activeImport, activeExport, onSide, sumOver, anyOf, netOn}
 use Rattle.ledger.specs.Band.{BandCall}
 use Rattle.ledger.specs.Fill.{ShapeOf, ofCategory, ofOptedOut, FillCall, weightBy, mayFill, remainderOf, leftOver, filledValues}
 use Rattle.ledger.specs.Checks.{Registration, RegistrationCall, ReceptionCall, endMinute, quality, wattHoursAt, openingCheck, NetCall, mayNet}
-use Rattle.ledger.specs.Sizes.{settingsLength, metersLength, readingsLength, cellsLength}
-use Rattle.ledger.specs.Ledger.{Opening, categories, dates, periods, category, dayType, Meter, Ledger, register, start, receive, run, readTotals, readCell, readNet, searchBand, fillHole, Answer, refused, accepted, moved, totalsAre, cellIs, netIs, bandIs, filledAre, answer, Lengths, leastLengths, metersShort, cellsShort, anyShort, meterWith, currentOf, cellAt, dayOf, isRun, pictureOf, afterRun, movedBetween, totalsAt, sideAt, netAt, bandAt, shapeAt, fillAt, ledgerAnswer, ledgerAfter}
+use Rattle.ledger.specs.Sizes.{settingsLength, metersLength, readingsLength, cellsLength, daysLength}
+use Rattle.ledger.specs.Ledger.{Opening, categories, dates, periods, category, dayType, Meter, Ledger, register, start, receive, run, readTotals, readCell, readNet, searchBand, fillHole, readCoverage, Answer, refused, accepted, moved, totalsAre, cellIs, netIs, bandIs, filledAre, coverageIs, answer, Lengths, leastLengths, metersShort, cellsShort, anyShort, meterWith, currentOf, cellAt, dayOf, isRun, pictureOf, afterRun, movedBetween, totalsAt, sideAt, netAt, bandAt, shapeAt, fillAt, coverageAt, ledgerAnswer, ledgerAfter}
 use Rattle.ledger.specs.Calls.{openingVerdict}
 use Rattle.ledger.specs.Engine.{Parts, leaves, openedParts, Item, storeAnswers, cutLengths, lengthsOf, AreBytes, BodiesOfBytes, Every}
 
@@ -85,16 +85,19 @@ FirstFails (r ∷ rows) n p = ((r .holds → ⊥) × (n ≡ r .number) × (p ≡
 abbrev pub GoesBy : List Row → Answer → Answer → Type 0
 GoesBy rows given heard = ((heard ≡ given) ↔ AllHold rows) × ((n p : ℕ) → (heard ≡ refused n p) ↔ FirstFails rows n p)
 
--- 1: each part lent has its least length; registration and reception are lent settings, meters and readings, reads settings and cells, opening
--- and run all four
+-- 1: each part lent has its least length; registration and reception are lent settings, meters and readings, reads settings and cells, the
+-- coverage read settings and days, opening and run all five
 abbrev pub MetersLong : Opening → Lengths → Type 0
 MetersLong o n = (leastLengths o .settings ≤ n .settings) × (leastLengths o .meters ≤ n .meters) × (leastLengths o .readings ≤ n .readings)
 
 abbrev pub CellsLong : Opening → Lengths → Type 0
 CellsLong o n = (leastLengths o .settings ≤ n .settings) × (leastLengths o .cells ≤ n .cells)
 
+abbrev pub DaysLong : Opening → Lengths → Type 0
+DaysLong o n = (leastLengths o .settings ≤ n .settings) × (leastLengths o .days ≤ n .days)
+
 abbrev pub AllLong : Opening → Lengths → Type 0
-AllLong o n = MetersLong o n × (leastLengths o .cells ≤ n .cells)
+AllLong o n = MetersLong o n × (leastLengths o .cells ≤ n .cells) × (leastLengths o .days ≤ n .days)
 
 -- opening
 
@@ -309,7 +312,10 @@ RunIsMethod =
 
 -- a read never says 14 of a run date
 abbrev pub NeverNotRun : Type 0
-NeverNotRun = (l : Ledger) (n : Lengths) (d c j : ℕ) → isRun l d ≡ true → (ledgerAnswer l n (readCell d c j) ≢ refused 14 0) × (ledgerAnswer l n (readTotals d c) ≢ refused 14 0)
+NeverNotRun =
+    (l : Ledger) (n : Lengths) (d c j : ℕ) → isRun l d ≡ true →
+    (ledgerAnswer l n (readCell d c j) ≢ refused 14 0) × (ledgerAnswer l n (readTotals d c) ≢ refused 14 0)
+    × (ledgerAnswer l n (readCoverage d c) ≢ refused 14 0)
 
 -- ---- Demand 2, the nearest earlier run date
 
@@ -427,7 +433,7 @@ LastAnswer p items i x = storeAnswers p (items ++ (i ∷ [])) ≡ storeAnswers p
 
 -- an opening that is accepted
 abbrev pub Accepts : Parts → Opening → Type 0
-Accepts p a = openingVerdict (p .settings) (p .meters) (p .readings) (p .cells) a .number ≡ 0
+Accepts p a = openingVerdict (p .settings) (p .meters) (p .readings) (p .cells) (p .days) a .number ≡ 0
 
 -- after any calls a reception is accepted exactly when the conditions hold
 abbrev pub EngineReceivesExactly : Type 0
@@ -471,6 +477,7 @@ PartsBounded =
     let P = periodsPerDay duration in
     let most = 64 * (M + C) * T * P in
     (settingsLength C T ≤ most) × (metersLength M ≤ most) × (readingsLength M T P ≤ most) × (cellsLength C T P ≤ most)
+    × (daysLength C T ≤ most)
 
 -- ---- Consequences
 
@@ -747,3 +754,44 @@ EngineFills =
     (p : Parts) (a : Opening) (items : List Item) (n : Lengths) (r : FillCall) (given : List ℕ) → Accepts p a → BodiesOfBytes items →
     LastAnswer (openedParts p a) items (record { lent = n; call = fillHole r }) (filledAre given) →
     Shared (periods a) (r .marks) (shapeValue (ledgerBeside p a items) r) (r .advance) given
+
+-- ---- Coverage reads (change request 2026-02)
+
+-- 1, 9, 15, 14
+abbrev pub CoverageExact : Type 0
+CoverageExact =
+    (l : Ledger) (n : Lengths) (d c : ℕ) →
+    GoesBy
+    (row 1 (DaysLong (l .opening) n) ∷ row 9 (d < dates (l .opening)) ∷ row 15 (c < categories (l .opening)) ∷ row 14 (HasPicture l d) ∷ [])
+    (coverageIs (coverageAt l d c))
+    (ledgerAnswer l n (readCoverage d c))
+
+-- period j of category c on date d has a cell that is not N
+pub record Shaped (l : Ledger) (d c j : ℕ) : Type 0 where
+  pub a-period : (1 ≤ j) × (j ≤ periods (l .opening))
+  pub not-blank : cellAt l d c j .flag ≢ N
+
+-- the sums are those of the totals' FRESH and BLANK over the run dates among this and the 6, or the 364, before; no cell that is not N has an
+-- origin before the oldest, and one has it, or all are N and it is 65535
+pub record Covered (l : Ledger) (d c : ℕ) (given : Coverage) : Type 0 where
+  pub fresh-week : given .fresh7 ≡ sumOver (runDatesAmong l 7 d) (λ x. totalsAt l x c .fresh)
+  pub blank-week : given .blanks7 ≡ sumOver (runDatesAmong l 7 d) (λ x. totalsAt l x c .blanks)
+  pub fresh-year : given .fresh365 ≡ sumOver (runDatesAmong l 365 d) (λ x. totalsAt l x c .fresh)
+  pub blank-year : given .blanks365 ≡ sumOver (runDatesAmong l 365 d) (λ x. totalsAt l x c .blanks)
+  pub none-older : (j : ℕ) → Shaped l d c j → given .oldest ≤ cellAt l d c j .origin
+  pub one-as-old : ((j : ℕ) × Shaped l d c j × (cellAt l d c j .origin ≡ given .oldest)) ⊎ (((j : ℕ) → Shaped l d c j → ⊥) × (given .oldest ≡ 65535))
+
+-- on a date below 65535, which says that there is none; an opening has at most 800
+abbrev pub CoverageCounts : Type 0
+CoverageCounts = (l : Ledger) (d c : ℕ) → d < 65535 → Covered l d c (coverageAt l d c)
+
+-- a coverage read changes nothing
+abbrev pub CoverageLeavesAll : Type 0
+CoverageLeavesAll = (l : Ledger) (n : Lengths) (p : Parts) (d c : ℕ) → (ledgerAfter l n (readCoverage d c) ≡ l) × (leaves p (readCoverage d c) ≡ p)
+
+-- on the engine: where the store, after any calls, answers a coverage read with numbers, they are these, by the cells of the ledger beside it
+abbrev pub EngineCovers : Type 0
+EngineCovers =
+    (p : Parts) (a : Opening) (items : List Item) (n : Lengths) (d c : ℕ) (given : Coverage) → Accepts p a → BodiesOfBytes items →
+    LastAnswer (openedParts p a) items (record { lent = n; call = readCoverage d c }) (coverageIs given) →
+    Covered (ledgerBeside p a items) d c given

@@ -3,8 +3,8 @@ use Prim.Native.Nat.{ℕ, _<_, min}
 use mathlib.Core.Path.{_≡_}
 use mathlib.Core.List.{List, [], _∷_, _++_}
 use lib.ListN.{length, getD, take, drop}
-use Rattle.ledger.specs.Ledger.{Opening, Ledger, start, Call, register, receive, run, readTotals, readCell, readNet, searchBand, fillHole, Answer, accepted, moved, totalsAre, cellIs, netIs, bandIs, filledAre, answer, left, Lengths, ledgerAnswer, ledgerAfter}
-use Rattle.ledger.specs.Calls.{openingVerdict, openedSettings, openedMeters, openedReadings, openedCells, registrationVerdict, registeredMeters, receptionVerdict, receivedReadings, runVerdict, ranFrom, totalsVerdict, totalsFor, cellVerdict, cellFor, netVerdict, netFor, bandVerdict, bandFor, fillVerdict, fillFor}
+use Rattle.ledger.specs.Ledger.{Opening, Ledger, start, Call, register, receive, run, readTotals, readCell, readNet, searchBand, fillHole, readCoverage, Answer, accepted, moved, totalsAre, cellIs, netIs, bandIs, filledAre, coverageIs, answer, left, Lengths, ledgerAnswer, ledgerAfter}
+use Rattle.ledger.specs.Calls.{openingVerdict, openedSettings, openedMeters, openedReadings, openedCells, openedDays, registrationVerdict, registeredMeters, receptionVerdict, receivedReadings, runVerdict, Published, ranFrom, totalsVerdict, totalsFor, cellVerdict, cellFor, netVerdict, netFor, bandVerdict, bandFor, fillVerdict, fillFor, coverageVerdict, coverageFor}
 
 -- the parts of a store
 pub record Parts : Type 0 where
@@ -12,31 +12,33 @@ pub record Parts : Type 0 where
   pub meters : List ℕ
   pub readings : List ℕ
   pub cells : List ℕ
+  pub days : List ℕ
 
 -- what a call answers, by the definitions that the code's contracts cite
 unfoldable pub callAnswer : Parts → Call → Answer
 callAnswer p (register a) = answer (registrationVerdict (p .settings) (p .meters) (p .readings) a) accepted
 callAnswer p (receive a) = answer (receptionVerdict (p .settings) (p .meters) (p .readings) a) accepted
 callAnswer p (run d) =
-    answer (runVerdict (p .settings) (p .meters) (p .readings) (p .cells) d)
-    (moved (ranFrom (p .settings) (p .meters) (p .readings) (p .cells) d .moved))
+    answer (runVerdict (p .settings) (p .meters) (p .readings) (p .cells) (p .days) d)
+    (moved (ranFrom (p .settings) (p .meters) (p .readings) (p .cells) (p .days) d .moved))
 callAnswer p (readTotals d c) = answer (totalsVerdict (p .settings) (p .cells) d c) (totalsAre (totalsFor (p .settings) (p .cells) d c))
 callAnswer p (readCell d c j) = answer (cellVerdict (p .settings) (p .cells) d c j) (cellIs (cellFor (p .settings) (p .cells) d c j))
 callAnswer p (readNet a) = answer (netVerdict (p .settings) (p .cells) a) (netIs (netFor (p .settings) (p .cells) a))
 callAnswer p (searchBand a) = answer (bandVerdict (p .settings) (p .cells) a) (bandIs (bandFor (p .settings) (p .cells) a))
 callAnswer p (fillHole a) = answer (fillVerdict (p .settings) (p .cells) a) (filledAre (fillFor (p .settings) (p .cells) a))
+callAnswer p (readCoverage d c) = answer (coverageVerdict (p .settings) (p .days) d c) (coverageIs (coverageFor (p .settings) (p .days) d c))
 
--- parts of which one is written
+-- parts with what a registration, a reception or a run writes
 abbrev pub withMeters : List ℕ → Parts → Parts
-withMeters meters p = record { settings = p .settings; meters = meters; readings = p .readings; cells = p .cells }
+withMeters meters p = record { settings = p .settings; meters = meters; readings = p .readings; cells = p .cells; days = p .days }
 
 abbrev pub withReadings : List ℕ → Parts → Parts
-withReadings readings p = record { settings = p .settings; meters = p .meters; readings = readings; cells = p .cells }
+withReadings readings p = record { settings = p .settings; meters = p .meters; readings = readings; cells = p .cells; days = p .days }
 
-abbrev pub withCells : List ℕ → Parts → Parts
-withCells cells p = record { settings = p .settings; meters = p .meters; readings = p .readings; cells = cells }
+abbrev pub withPublished : Published → Parts → Parts
+withPublished q p = record { settings = p .settings; meters = p .meters; readings = p .readings; cells = q .cells; days = q .days }
 
--- and what it leaves of the parts: one of them is written at most
+-- and what a call leaves of the parts
 unfoldable pub leaves : Parts → Call → Parts
 leaves p (register a) =
     left (registrationVerdict (p .settings) (p .meters) (p .readings) a) p
@@ -45,13 +47,14 @@ leaves p (receive a) =
     left (receptionVerdict (p .settings) (p .meters) (p .readings) a) p
     (withReadings (receivedReadings (p .settings) (p .meters) (p .readings) a) p)
 leaves p (run d) =
-    left (runVerdict (p .settings) (p .meters) (p .readings) (p .cells) d) p
-    (withCells (ranFrom (p .settings) (p .meters) (p .readings) (p .cells) d .cells) p)
+    left (runVerdict (p .settings) (p .meters) (p .readings) (p .cells) (p .days) d) p
+    (withPublished (ranFrom (p .settings) (p .meters) (p .readings) (p .cells) (p .days) d .published) p)
 leaves p (readTotals d c) = p
 leaves p (readCell d c j) = p
 leaves p (readNet a) = p
 leaves p (searchBand a) = p
 leaves p (fillHole a) = p
+leaves p (readCoverage d c) = p
 
 -- the parts after an accepted opening
 unfoldable pub openedParts : Parts → Opening → Parts
@@ -61,11 +64,12 @@ openedParts p a =
       meters = openedMeters a (p .meters);
       readings = openedReadings a (p .readings);
       cells = openedCells a (p .cells);
+      days = openedDays a (p .days);
     }
 
 -- and after any
 unfoldable pub afterOpening : Parts → Opening → Parts
-afterOpening p a = left (openingVerdict (p .settings) (p .meters) (p .readings) (p .cells) a) p (openedParts p a)
+afterOpening p a = left (openingVerdict (p .settings) (p .meters) (p .readings) (p .cells) (p .days) a) p (openedParts p a)
 
 -- a call, and how much of each part it is lent
 pub record Item : Type 0 where
@@ -80,6 +84,7 @@ cut n p =
       meters = take (n .meters) (p .meters);
       readings = take (n .readings) (p .readings);
       cells = take (n .cells) (p .cells);
+      days = take (n .days) (p .days);
     }
 
 -- and what was cut off the parts p put back behind those that a call left
@@ -90,6 +95,7 @@ restored n p after =
       meters = after .meters ++ drop (n .meters) (p .meters);
       readings = after .readings ++ drop (n .readings) (p .readings);
       cells = after .cells ++ drop (n .cells) (p .cells);
+      days = after .days ++ drop (n .days) (p .days);
     }
 
 -- the parts after a call that was lent them cut
@@ -112,6 +118,7 @@ cutLengths n whole =
       meters = min (n .meters) (whole .meters);
       readings = min (n .readings) (whole .readings);
       cells = min (n .cells) (whole .cells);
+      days = min (n .days) (whole .days);
     }
 
 unfoldable pub ledgerAnswers : Ledger → Lengths → List Item → List Answer
@@ -120,7 +127,7 @@ ledgerAnswers l whole items =
 
 abbrev pub lengthsOf : Parts → Lengths
 lengthsOf p =
-    record { settings = length (p .settings); meters = length (p .meters); readings = length (p .readings); cells = length (p .cells) }
+    record { settings = length (p .settings); meters = length (p .meters); readings = length (p .readings); cells = length (p .cells); days = length (p .days) }
 
 -- a body is made of bytes
 abbrev pub AreBytes : List ℕ → Type 0
@@ -135,6 +142,7 @@ BodyOfBytes (readCell d c j) = Unit {0}
 BodyOfBytes (readNet a) = Unit {0}
 BodyOfBytes (searchBand a) = Unit {0}
 BodyOfBytes (fillHole a) = Unit {0}
+BodyOfBytes (readCoverage d c) = Unit {0}
 
 -- a condition on every entry of a list
 abbrev pub Every : {I : Type 0} → (I → Type 0) → List I → Type 0
@@ -148,6 +156,6 @@ BodiesOfBytes items = Every (λ i. BodyOfBytes (i .call)) items
 abbrev pub Agreement : Type 0
 Agreement =
     (p : Parts) (a : Opening) (items : List Item) →
-    openingVerdict (p .settings) (p .meters) (p .readings) (p .cells) a .number ≡ 0 →
+    openingVerdict (p .settings) (p .meters) (p .readings) (p .cells) (p .days) a .number ≡ 0 →
     BodiesOfBytes items →
     storeAnswers (openedParts p a) items ≡ ledgerAnswers (start a) (lengthsOf p) items

@@ -6,12 +6,12 @@ use mathlib.Core.Option.{Option, none, some}
 use lib.Dec.{leb, ltb, eqb}
 use lib.ListN.{length}
 use Rattle.metering.specs.Sum.{sumBelow}
-use Rattle.ledger.specs.Method.{Category, ReadingSet, Picture, freshIn, Cell, Day, notRun, ran, cellOn, movedCell, Totals, totalsOn}
+use Rattle.ledger.specs.Method.{Category, ReadingSet, Picture, freshIn, Cell, Day, notRun, ran, cellOn, movedCell, Totals, totalsOn, Coverage, coverageOn}
 use Rattle.ledger.specs.Net.{activeImport, activeExport, sideOf, Net, netOn}
 use Rattle.ledger.specs.Band.{BandCall, Band, bandOn}
 use Rattle.ledger.specs.Fill.{FillCall, shapeCategory, weightBy, mayFill, filledValues}
 use Rattle.ledger.specs.Checks.{Registration, RegistrationCall, ReceptionCall, Verdict, verdict, registered, startOf, inForce, registrationCheck, receptionCheck, readingIn, anyBelow, runCheck, readCheck, totalsInRange, cellInRange, NetCall, listsShort, mayNet, netCheck, bandCheck, fillCheck}
-use Rattle.ledger.specs.Sizes.{settingsLength, metersLength, readingsLength, cellsLength}
+use Rattle.ledger.specs.Sizes.{settingsLength, metersLength, readingsLength, cellsLength, daysLength}
 pub use Rattle.ledger.specs.Opening.{Opening, categories, dates, periods, category, dayType}
 
 -- ---- what it keeps
@@ -43,6 +43,7 @@ pub data Call : Type 0 where
   readNet : NetCall → Call
   searchBand : BandCall → Call
   fillHole : FillCall → Call
+  readCoverage : ℕ → ℕ → Call
 
 -- a refusal has its number and place
 pub data Answer : Type 0 where
@@ -54,6 +55,7 @@ pub data Answer : Type 0 where
   netIs : Net → Answer
   bandIs : Band → Answer
   filledAre : List ℕ → Answer
+  coverageIs : Coverage → Answer
 
 -- the first failed check's answer, or that of the accepted call
 unfoldable pub answer : Verdict → Answer → Answer
@@ -69,6 +71,7 @@ pub record Lengths : Type 0 where
   pub meters : ℕ
   pub readings : ℕ
   pub cells : ℕ
+  pub days : ℕ
 
 -- the least that an opening asks of each
 abbrev pub leastLengths : Opening → Lengths
@@ -78,6 +81,7 @@ leastLengths o =
       meters = metersLength (o .meters);
       readings = readingsLength (o .meters) (dates o) (periods o);
       cells = cellsLength (categories o) (dates o) (periods o);
+      days = daysLength (categories o) (dates o);
     }
 
 unfoldable pub settingsShort : Opening → Lengths → Bool
@@ -88,13 +92,18 @@ unfoldable pub metersShort : Opening → Lengths → Bool
 metersShort o n =
     settingsShort o n || ltb (n .meters) (metersLength (o .meters)) || ltb (n .readings) (readingsLength (o .meters) (dates o) (periods o))
 
--- the reads are lent settings and cells
+-- all reads but the coverage read are lent settings and cells
 unfoldable pub cellsShort : Opening → Lengths → Bool
 cellsShort o n = settingsShort o n || ltb (n .cells) (cellsLength (categories o) (dates o) (periods o))
 
--- a run is lent all four
+-- the coverage read is lent settings and days
+unfoldable pub daysShort : Opening → Lengths → Bool
+daysShort o n = settingsShort o n || ltb (n .days) (daysLength (categories o) (dates o))
+
+-- an opening and a run are lent all five
 unfoldable pub anyShort : Opening → Lengths → Bool
-anyShort o n = metersShort o n || ltb (n .cells) (cellsLength (categories o) (dates o) (periods o))
+anyShort o n =
+    metersShort o n || ltb (n .cells) (cellsLength (categories o) (dates o) (periods o)) || ltb (n .days) (daysLength (categories o) (dates o))
 
 -- ---- registration
 
@@ -273,6 +282,13 @@ ledgerFillCheck l n a =
 unfoldable pub fillAt : Ledger → FillCall → List ℕ
 fillAt l a = filledValues (periods (l .opening)) (weightAt l a) (a .advance)
 
+unfoldable pub ledgerCoverageCheck : Ledger → Lengths → ℕ → ℕ → Verdict
+ledgerCoverageCheck l n d c =
+    verdict (readCheck (daysShort (l .opening) n) (dates (l .opening)) d (totalsInRange (categories (l .opening)) c) (isRun l d))
+
+unfoldable pub coverageAt : Ledger → ℕ → ℕ → Coverage
+coverageAt l d c = coverageOn (periods (l .opening)) (isRun l) (λ x j. cellAt l x c j) d
+
 -- ---- a call
 
 unfoldable pub ledgerAnswer : Ledger → Lengths → Call → Answer
@@ -284,6 +300,7 @@ ledgerAnswer l n (readCell d c j) = answer (ledgerCellCheck l n d c j) (cellIs (
 ledgerAnswer l n (readNet a) = answer (ledgerNetCheck l n a) (netIs (netAt l a))
 ledgerAnswer l n (searchBand a) = answer (ledgerBandCheck l n a) (bandIs (bandAt l a))
 ledgerAnswer l n (fillHole a) = answer (ledgerFillCheck l n a) (filledAre (fillAt l a))
+ledgerAnswer l n (readCoverage d c) = answer (ledgerCoverageCheck l n d c) (coverageIs (coverageAt l d c))
 
 unfoldable pub ledgerAfter : Ledger → Lengths → Call → Ledger
 ledgerAfter l n (register a) = left (ledgerRegistrationCheck l n a) l (afterRegistration l a)
@@ -294,3 +311,4 @@ ledgerAfter l n (readCell d c j) = l
 ledgerAfter l n (readNet a) = l
 ledgerAfter l n (searchBand a) = l
 ledgerAfter l n (fillHole a) = l
+ledgerAfter l n (readCoverage d c) = l

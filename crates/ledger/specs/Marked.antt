@@ -1,4 +1,4 @@
--- The scope paper's marked list as one computed check; its worked example, one of nets, one of bands and one of fills as computed runs of the ledger.
+-- The scope paper's marked list as one computed check; its worked example, one of nets, one of bands, one of fills and one of coverage as computed runs of the ledger.
 use Prim.Native.Nat.{ℕ, zero, suc, _/_, _%_}
 use mathlib.Core.Path.{_≡_, refl}
 use mathlib.Core.Bool.{Bool, true, false, not, _&&_, Bool·beq}
@@ -12,14 +12,14 @@ use Rattle.metering.specs.Mpan.{mpanValid, checkDigit, weightedSum, product, di
 use Rattle.metering.specs.Average.{average, annual}
 use Rattle.metering.specs.Range.{between, dayTypeValid}
 use Rattle.metering.specs.Calendar.{periodsPerDay, periodEnding, liesWithin, windowStart, windowEnd}
-use Rattle.ledger.specs.Method.{Category, categoryAt, isSmart, sameFamily, HeldSet, Picture, total, isEnough, freshOf, freshIn, Cell, D, blank, carried, cellFrom, ran, afterDate, latest, cellOf, cellOn, sameCell, movedCell, overRunDates, totOn, offOn, peakOn, totalsOn}
+use Rattle.ledger.specs.Method.{Category, categoryAt, isSmart, sameFamily, HeldSet, Picture, total, isEnough, freshOf, freshIn, Cell, D, blank, carried, cellFrom, ran, afterDate, latest, cellOf, cellOn, sameCell, movedCell, overRunDates, freshAmong, blanksAmong, totOn, offOn, peakOn, totalsOn, originOf, oldestAmong, coverageOn}
 use Rattle.ledger.specs.Table.{tabulate, chosenBelow, firstFrom}
 use Rattle.ledger.specs.Net.{onSide, sideOf, sumOver, anyOf, signedSum, netPeriod, markOf, netTot, netTot7, netOn}
 use Rattle.ledger.specs.Band.{inBand, bandDates, bandOn}
 use Rattle.ledger.specs.Fill.{ShapeOf, ofCategory, ofOptedOut, isOptedOutShape, shapeCategory, weightBy, mayFill, comesBefore, countBefore, wholePart, remainderOf, leftOver, filledValue, filledValues}
 use Rattle.ledger.specs.Checks.{firstFailed, anyBelow, orElse, firstNumber, callNumber, contentNumber, recordNumberIf, recordNumber, endMinute, quality, wattHoursAt, startOf, later, inForceAfter, inForce, notAfterLast, fieldsNumber, knownNumber, meterNumber, registrationCheck, headerNumber, bodyCheck, inForceCheck, receptionCheck, isReading, readingIn, runCheck, readCheck, totalsInRange, cellInRange, listsShort, mayNet, netCheck, bandCheck, fillCheck}
-use Rattle.ledger.specs.Sizes.{settingsLength, metersLength, readingsLength, cellsLength}
-use Rattle.ledger.specs.Ledger.{Opening, Ledger, start, Call, register, receive, run, readTotals, readCell, readNet, searchBand, fillHole, Answer, refused, accepted, moved, totalsAre, netIs, bandIs, filledAre, answer, left, Lengths, leastLengths, settingsShort, metersShort, cellsShort, anyShort, meterWith, changed, heldFrom, ledgerRegistrationCheck, registerIn, afterRegistration, ledgerReceptionCheck, setOf, at, afterReception, cellBy, cellAt, isRun, ledgerRunCheck, pictureOf, afterRun, movedBetween, ledgerTotalsCheck, ledgerCellCheck, totalsAt, ledgerNetCheck, sideAt, netAt, ledgerBandCheck, bandAt, shapeAt, weightAt, ledgerFillCheck, fillAt, ledgerAnswer, ledgerAfter}
+use Rattle.ledger.specs.Sizes.{settingsLength, metersLength, readingsLength, cellsLength, daysLength}
+use Rattle.ledger.specs.Ledger.{Opening, Ledger, start, Call, register, receive, run, readTotals, readCell, readNet, searchBand, fillHole, readCoverage, Answer, refused, accepted, moved, totalsAre, netIs, bandIs, filledAre, coverageIs, answer, left, Lengths, leastLengths, settingsShort, metersShort, cellsShort, daysShort, anyShort, meterWith, changed, heldFrom, ledgerRegistrationCheck, registerIn, afterRegistration, ledgerReceptionCheck, setOf, at, afterReception, cellBy, cellAt, isRun, ledgerRunCheck, pictureOf, afterRun, movedBetween, ledgerTotalsCheck, ledgerCellCheck, totalsAt, ledgerNetCheck, sideAt, netAt, ledgerBandCheck, bandAt, shapeAt, weightAt, ledgerFillCheck, fillAt, ledgerCoverageCheck, coverageAt, ledgerAnswer, ledgerAfter}
 use Rattle.ledger.specs.Engine.{Parts, openedParts, Item, storeAnswers, lengthsOf}
 use Rattle.ledger.specs.Demands.{Accepts}
 
@@ -312,15 +312,74 @@ fillAnswers =
     (record { tot = 1100; off = 0; peak = 0; tot7 = 1100; off7 = 0; peak7 = 0; days7 = 1; ann = 401500; days = 1; fresh = 4; blanks = 44 })
     ∷ []
 
--- ---- all four, computed
+-- ---- a worked example of coverage (change request 2026-02)
+
+-- nine dates of one day type
+abbrev pub coverageOpening : Opening
+coverageOpening =
+    record {
+      duration = 30;
+      meters = 1;
+      categoryBytes = 1 ∷ 1 ∷ 1 ∷ 1 ∷ 1 ∷ 0 ∷ 0 ∷ 1 ∷ [];
+      dayTypes = replicate 9 1;
+    }
+
+-- readings in periods 1 to 3 of date 0 and in period 1 of date 4; later date 0 has one in period 1 alone, with its old value
+abbrev pub coverageCalls : List Call
+coverageCalls =
+    registers exampleMpan 0
+    ∷ sends exampleMpan 0 1 (half 30 500 (half 60 300 (half 90 200 [])))
+    ∷ sendsDay 4 400
+    ∷ run 0
+    ∷ run 4
+    ∷ run 8
+    ∷ readCoverage 0 0
+    ∷ readCoverage 4 0
+    ∷ readCoverage 8 0
+    ∷ sendsDay 0 500
+    ∷ run 0
+    ∷ readCoverage 0 0
+    ∷ readCoverage 4 0
+    ∷ readCoverage 8 0
+    ∷ readCoverage 7 0
+    ∷ readCoverage 8 1
+    ∷ readCoverage 9 1
+    ∷ []
+
+abbrev pub coverageGiven : ℕ → ℕ → ℕ → ℕ → ℕ → Answer
+coverageGiven fresh7 blanks7 fresh365 blanks365 oldest =
+    coverageIs (record { fresh7 = fresh7; blanks7 = blanks7; fresh365 = fresh365; blanks365 = blanks365; oldest = oldest })
+
+-- date 0 is among the seven of date 4 and not among those of date 8
+abbrev pub coverageAnswers : List Answer
+coverageAnswers =
+    accepted ∷ accepted ∷ accepted
+    ∷ moved 3
+    ∷ moved 3
+    ∷ moved 3
+    ∷ coverageGiven 3 45 3 45 0
+    ∷ coverageGiven 4 90 4 90 0
+    ∷ coverageGiven 1 90 4 135 0
+    ∷ accepted
+    ∷ moved 6
+    ∷ coverageGiven 1 47 1 47 0
+    ∷ coverageGiven 2 94 2 94 4
+    ∷ coverageGiven 1 94 2 141 4
+    ∷ refused 14 0
+    ∷ refused 15 0
+    ∷ refused 9 0
+    ∷ []
+
+-- ---- all five, computed
 
 pub worked-examples :
     (ledgerRun (start exampleOpening) (leastLengths exampleOpening) exampleCalls ≡ exampleAnswers)
     × (ledgerRun (start netOpening) (leastLengths netOpening) netCalls ≡ netAnswers)
     × (ledgerRun (start bandOpening) (leastLengths bandOpening) bandCalls ≡ bandAnswers)
     × (ledgerRun (start fillOpening) (leastLengths fillOpening) fillCalls ≡ fillAnswers)
-unfolding ledgerRun start ledgerAnswer ledgerAfter answer left settingsShort metersShort cellsShort anyShort meterWith changed heldFrom ledgerRegistrationCheck registerIn afterRegistration ledgerReceptionCheck setOf at afterReception cellBy cellAt isRun ledgerRunCheck pictureOf afterRun movedBetween ledgerTotalsCheck ledgerCellCheck totalsAt settingsLength metersLength readingsLength cellsLength firstFailed startOf later inForceAfter inForce notAfterLast meterNumber registrationCheck bodyCheck inForceCheck receptionCheck isReading readingIn runCheck readCheck totalsInRange cellInRange movedCell overRunDates totOn offOn peakOn totalsOn categoryAt mpanValid checkDigit weightedSum product digit weights sumBelow average annual recordNumber periodEnding periodsPerDay liesWithin windowStart windowEnd between sameCell blank cellOn cellOf cellFrom latest afterDate freshIn freshOf isEnough total isSmart sameFamily anyBelow endMinute quality wattHoursAt carried netCheck listsShort mayNet ledgerNetCheck sideAt netAt onSide chosenBelow sideOf sumOver anyOf signedSum netPeriod markOf netTot netTot7 netOn tabulate orElse firstNumber callNumber fieldsNumber knownNumber headerNumber recordNumberIf contentNumber bandCheck ledgerBandCheck bandAt bandOn bandDates inBand dayTypeValid fillCheck ledgerFillCheck shapeAt weightAt fillAt isOptedOutShape shapeCategory firstFrom weightBy mayFill comesBefore countBefore wholePart remainderOf leftOver filledValue filledValues
-worked-examples = (refl, refl, refl, refl)
+    × (ledgerRun (start coverageOpening) (leastLengths coverageOpening) coverageCalls ≡ coverageAnswers)
+unfolding ledgerRun start ledgerAnswer ledgerAfter answer left settingsShort metersShort cellsShort anyShort meterWith changed heldFrom ledgerRegistrationCheck registerIn afterRegistration ledgerReceptionCheck setOf at afterReception cellBy cellAt isRun ledgerRunCheck pictureOf afterRun movedBetween ledgerTotalsCheck ledgerCellCheck totalsAt settingsLength metersLength readingsLength cellsLength firstFailed startOf later inForceAfter inForce notAfterLast meterNumber registrationCheck bodyCheck inForceCheck receptionCheck isReading readingIn runCheck readCheck totalsInRange cellInRange movedCell overRunDates totOn offOn peakOn totalsOn categoryAt mpanValid checkDigit weightedSum product digit weights sumBelow average annual recordNumber periodEnding periodsPerDay liesWithin windowStart windowEnd between sameCell blank cellOn cellOf cellFrom latest afterDate freshIn freshOf isEnough total isSmart sameFamily anyBelow endMinute quality wattHoursAt carried netCheck listsShort mayNet ledgerNetCheck sideAt netAt onSide chosenBelow sideOf sumOver anyOf signedSum netPeriod markOf netTot netTot7 netOn tabulate orElse firstNumber callNumber fieldsNumber knownNumber headerNumber recordNumberIf contentNumber bandCheck ledgerBandCheck bandAt bandOn bandDates inBand dayTypeValid fillCheck ledgerFillCheck shapeAt weightAt fillAt isOptedOutShape shapeCategory firstFrom weightBy mayFill comesBefore countBefore wholePart remainderOf leftOver filledValue filledValues daysLength daysShort ledgerCoverageCheck coverageAt freshAmong blanksAmong originOf oldestAmong coverageOn
+worked-examples = (refl, refl, refl, refl, refl)
 
 -- ---- the same on the engine, from its opening on
 
@@ -333,10 +392,11 @@ abbrev pub EngineAnswers : Opening → List Call → List Answer → Type 0
 EngineAnswers a calls answers =
     (p : Parts) → lengthsOf p ≡ leastLengths a → Accepts p a × (storeAnswers (openedParts p a) (lentLeast a calls) ≡ answers)
 
--- all four examples
+-- all five examples
 abbrev pub WorkedOnEngine : Type 0
 WorkedOnEngine =
     EngineAnswers exampleOpening exampleCalls exampleAnswers
     × EngineAnswers netOpening netCalls netAnswers
     × EngineAnswers bandOpening bandCalls bandAnswers
     × EngineAnswers fillOpening fillCalls fillAnswers
+    × EngineAnswers coverageOpening coverageCalls coverageAnswers

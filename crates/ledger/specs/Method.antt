@@ -1,7 +1,7 @@
 -- METH005 version 5.3 (source document 000), the Load Shaping Service, as the scope paper condenses it. A number such as "000, 9.1" is a section of
 -- that document; "house" marks a rule that the paper adds or puts in place of METH005's.
 -- Dates count from 0, categories from 0, periods from 1.
-use Prim.Native.Nat.{ℕ, zero, suc, _+_, _-_, _*_}
+use Prim.Native.Nat.{ℕ, zero, suc, _+_, _-_, _*_, min}
 use mathlib.Core.Bool.{Bool, true, false, _&&_, cond}
 use mathlib.Core.List.{List, [], _∷_}
 use mathlib.Core.Option.{Option, none, some}
@@ -215,6 +215,13 @@ isBlank N = 1
 unfoldable pub overRunDates : (ℕ → Bool) → ℕ → (ℕ → ℕ) → ℕ → ℕ
 overRunDates isRun n f d = sumBelow n (λ k. cond (leb k d && isRun (d - k)) (f (d - k)) 0)
 
+-- in the cells of a category's periods: FRESH counts those that are A or D, BLANK those that are N
+unfoldable pub freshAmong : ℕ → (ℕ → Cell) → ℕ
+freshAmong periods cells = sumBelow periods (λ k. isFresh (cells k .flag))
+
+unfoldable pub blanksAmong : ℕ → (ℕ → Cell) → ℕ
+blanksAmong periods cells = sumBelow periods (λ k. isBlank (cells k .flag))
+
 -- for one category: its window w, the period duration, P, which dates are run, and its cell on a date and period
 module _ (duration periods w : ℕ) (isRun : ℕ → Bool) (cell : ℕ → ℕ → Cell) where
   -- TOT: all values of the date (000, 10.1)
@@ -242,6 +249,37 @@ module _ (duration periods w : ℕ) (isRun : ℕ → Bool) (cell : ℕ → ℕ �
         days7 = overRunDates isRun 7 (λ _. 1) d;
         ann = annual (overRunDates isRun 365 totOn d) (overRunDates isRun 365 (λ _. 1) d);
         days = overRunDates isRun 365 (λ _. 1) d;
-        fresh = sumBelow periods (λ k. isFresh (cell d (suc k) .flag));
-        blanks = sumBelow periods (λ k. isBlank (cell d (suc k) .flag));
+        fresh = freshAmong periods (λ k. cell d (suc k));
+        blanks = blanksAmong periods (λ k. cell d (suc k));
+      }
+
+-- ---- coverage of a run date and category (house)
+
+-- all that a coverage read answers
+pub record Coverage : Type 0 where
+  pub fresh7 : ℕ
+  pub blanks7 : ℕ
+  pub fresh365 : ℕ
+  pub blanks365 : ℕ
+  pub oldest : ℕ
+
+-- what a cell's origin counts for among others: an N cell has none, which counts as the latest
+unfoldable pub originOf : Cell → ℕ
+originOf a = elim (a .flag) [ A ↦ a .origin | D ↦ a .origin | E ↦ a .origin | N ↦ 65535 ]
+
+-- the oldest origin among the cells that are not N; 65535 if all are N
+unfoldable pub oldestAmong : ℕ → (ℕ → Cell) → ℕ
+oldestAmong zero cells = 65535
+oldestAmong (suc n) cells = min (oldestAmong n cells) (originOf (cells n))
+
+-- for one category: P, which dates are run, and its cell on a date and period
+module _ (periods : ℕ) (isRun : ℕ → Bool) (cell : ℕ → ℕ → Cell) where
+  unfoldable pub coverageOn : ℕ → Coverage
+  coverageOn d =
+      record {
+        fresh7 = overRunDates isRun 7 (λ x. freshAmong periods (λ k. cell x (suc k))) d;
+        blanks7 = overRunDates isRun 7 (λ x. blanksAmong periods (λ k. cell x (suc k))) d;
+        fresh365 = overRunDates isRun 365 (λ x. freshAmong periods (λ k. cell x (suc k))) d;
+        blanks365 = overRunDates isRun 365 (λ x. blanksAmong periods (λ k. cell x (suc k))) d;
+        oldest = oldestAmong periods (λ k. cell d (suc k));
       }

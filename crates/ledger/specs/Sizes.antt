@@ -20,3 +20,7 @@ readingsLength M T P = T * M * (1 + P)
 -- an entry for each date, category and period
 unfoldable pub cellsLength : ℕ → ℕ → ℕ → ℕ
 cellsLength C T P = T * (C * P)
+
+-- for each category a row of entries for the dates, and a row of sums
+unfoldable pub daysLength : ℕ → ℕ → ℕ
+daysLength C T = C * (2 * T)

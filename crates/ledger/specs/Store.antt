@@ -8,11 +8,11 @@ use lib.ListN.{length, getD, set, drop}
 use lib.Seq.{sets}
 use Rattle.metering.specs.Range.{metersInRange, categoriesInRange, datesInRange}
 use Rattle.metering.specs.Calendar.{durationKnown, periodsPerDay}
-use Rattle.ledger.specs.Method.{Category, categoryAt, Flag, A, D, E, N, flagNumber, Cell}
+use Rattle.ledger.specs.Method.{Category, categoryAt, Flag, A, D, E, N, flagNumber, Cell, freshAmong, blanksAmong, oldestAmong, Coverage}
 use Rattle.ledger.specs.Opening.{Opening, categories, dates}
 use Rattle.ledger.specs.Table.{firstFrom}
 use Rattle.ledger.specs.Checks.{Registration}
-use Rattle.ledger.specs.Sizes.{headerLength, settingsLength, metersLength, readingsLength, cellsLength}
+use Rattle.ledger.specs.Sizes.{headerLength, settingsLength, metersLength, readingsLength, cellsLength, daysLength}
 
 -- ---- settings: the header, which is duration, M, C and T, two bytes each, big-endian; the category records; the day types
 
@@ -67,6 +67,9 @@ readingsReady s readings = leb (readingsLength (metersOf s) (datesOf s) (periods
 
 unfoldable pub cellsReady : List ℕ → List ℕ → Bool
 cellsReady s cells = leb (cellsLength (categoriesOf s) (datesOf s) (periodsOf s)) (length cells)
+
+unfoldable pub daysReady : List ℕ → List ℕ → Bool
+daysReady s days = leb (daysLength (categoriesOf s) (datesOf s)) (length days)
 
 -- ---- meters: M MPANs, 0 where the slot is free, then for each slot eight registrations; status 0 says that one is unused
 
@@ -150,3 +153,37 @@ cellIndex C P d c j = d * (C * P) + (c * P + (j - 1))
 -- a date is run where the flag of its first cell is not 0; n is a date's number of cells
 unfoldable pub isRunAt : ℕ → List ℕ → ℕ → Bool
 isRunAt n cells d = not (eqb (flagNumberOf (getD cells (d * n) 0)) 0)
+
+-- ---- days: for each category a row of T entries and a row of T sums, one of each for a date. The entry of a run date is
+-- FRESH + 2 ^ 16 BLANK + 2 ^ 32 oldest origin + 2 ^ 48, that of a date not run is 0. A date has a sum, run or not:
+-- FRESH + 2 ^ 16 BLANK over the run dates among 7, and 2 ^ 32 times the same over those among 365.
+
+unfoldable pub dayIndex : ℕ → ℕ → ℕ → ℕ
+dayIndex T c d = c * (2 * T) + d
+
+unfoldable pub sumIndex : ℕ → ℕ → ℕ → ℕ
+sumIndex T c d = c * (2 * T) + (T + d)
+
+unfoldable pub dayEntry : ℕ → ℕ → ℕ → ℕ
+dayEntry fresh blanks oldest = fresh + 65536 * blanks + 4294967296 * oldest + 281474976710656
+
+-- the entry of a category's cells on a date
+unfoldable pub dayEntryOf : ℕ → (ℕ → Cell) → ℕ
+dayEntryOf periods cells = dayEntry (freshAmong periods cells) (blanksAmong periods cells) (oldestAmong periods cells)
+
+-- FRESH + 2 ^ 16 BLANK
+unfoldable pub countsOf : ℕ → ℕ
+countsOf entry = entry % 4294967296
+
+unfoldable pub isRunDay : ℕ → ℕ → List ℕ → ℕ → Bool
+isRunDay T c days d = not (eqb (getD days (dayIndex T c d) 0) 0)
+
+unfoldable pub coverageOf : ℕ → ℕ → Coverage
+coverageOf entry sum =
+    record {
+      fresh7 = sum % 65536;
+      blanks7 = sum / 65536 % 65536;
+      fresh365 = sum / 4294967296 % 65536;
+      blanks365 = sum / 281474976710656 % 65536;
+      oldest = entry / 4294967296 % 65536;
+    }

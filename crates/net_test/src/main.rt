@@ -12,6 +12,7 @@ fn main() {
     let mut meters = [0u64; 492];
     let mut readings = [0u64; 7056];
     let mut cells = [0u64; 6912];
+    let mut days = [0u64; 288];
     let end = console::converse(
         &mut category_records,
         &mut day_types,
@@ -19,6 +20,7 @@ fn main() {
         &mut meters,
         &mut readings,
         &mut cells,
+        &mut days,
         Capacity {
             meters: 12,
             date_periods: 576,

@@ -7,7 +7,7 @@ use lib.ListN.{length}
 use Rattle.ledger.specs.Opening.{Opening, categories, dates}
 use Rattle.ledger.specs.Checks.{verdict, firstFailed, orElse, categoryNumber, dayTypeNumber, sizesValid, openingCheck}
 use Rattle.ledger.specs.Ledger.{Lengths, leastLengths, settingsShort, metersShort, anyShort, answer, accepted, refused}
-use Rattle.ledger.specs.Calls.{openingVerdict, emptied, openedSettings, openedMeters, openedReadings, openedCells, OpeningMeets}
+use Rattle.ledger.specs.Calls.{openingVerdict, emptied, openedSettings, openedMeters, openedReadings, openedCells, openedDays, OpeningMeets}
 use Rattle.ledger.proofs.Verdicts.{left-none, left-some, accepted-none, refused-some, or-refused, or-accepted}
 use Rattle.opening.specs.Lengths.{anyBelowLeast}
 
@@ -51,9 +51,9 @@ unfolding anyShort metersShort settingsShort
 short-is a n = refl
 
 -- a refused opening leaves each part as it was
-pub opening-refused : (S M R C : List ℕ) (a : Opening) (n p : ℕ) → refused n p ≡ answer (openingVerdict S M R C a) accepted
-    → OpeningMeets S M R C a (refused n p) S M R C
-opening-refused S M R C a n p e =
+pub opening-refused : (S M R C D : List ℕ) (a : Opening) (n p : ℕ) → refused n p ≡ answer (openingVerdict S M R C D a) accepted
+    → OpeningMeets S M R C D a (refused n p) S M R C D
+opening-refused S M R C D a n p e =
     let ne = refused-some _ n p e in
     record {
       answered = e;
@@ -61,14 +61,15 @@ opening-refused S M R C a n p e =
       meters = sym (left-some _ _ _ ne);
       readings = sym (left-some _ _ _ ne);
       cells = sym (left-some _ _ _ ne);
+      days = sym (left-some _ _ _ ne);
     }
 
 -- an accepted one is written, each other part emptied to its least length
-pub opening-done : (S M R C : List ℕ) (a : Opening) (least : Lengths) {S′ M′ R′ C′ : List ℕ} → accepted ≡ answer (openingVerdict S M R C a) accepted → least ≡ leastLengths a
-    → S′ ≡ openedSettings a S → M′ ≡ emptied (least .meters) M → R′ ≡ emptied (least .readings) R → C′ ≡ emptied (least .cells) C
-    → OpeningMeets S M R C a accepted S′ M′ R′ C′
-unfolding openedMeters openedReadings openedCells
-opening-done S M R C a least e are s m r c =
+pub opening-done : (S M R C D : List ℕ) (a : Opening) (least : Lengths) {S′ M′ R′ C′ D′ : List ℕ} → accepted ≡ answer (openingVerdict S M R C D a) accepted → least ≡ leastLengths a
+    → S′ ≡ openedSettings a S → M′ ≡ emptied (least .meters) M → R′ ≡ emptied (least .readings) R → C′ ≡ emptied (least .cells) C → D′ ≡ emptied (least .days) D
+    → OpeningMeets S M R C D a accepted S′ M′ R′ C′ D′
+unfolding openedMeters openedReadings openedCells openedDays
+opening-done S M R C D a least e are s m r c d =
     let z = accepted-none _ e in
     record {
       answered = e;
@@ -76,10 +77,11 @@ opening-done S M R C a least e are s m r c =
       meters = m ∙ ap (λ n. emptied (n .meters) M) are ∙ sym (left-none _ _ _ z);
       readings = r ∙ ap (λ n. emptied (n .readings) R) are ∙ sym (left-none _ _ _ z);
       cells = c ∙ ap (λ n. emptied (n .cells) C) are ∙ sym (left-none _ _ _ z);
+      days = d ∙ ap (λ n. emptied (n .days) D) are ∙ sym (left-none _ _ _ z);
     }
 
 -- what was checked on lengths is the verdict on the parts
-pub verdict-of : (S M R C : List ℕ) (a : Opening)
-    → openingCheck a (anyShort a (record { settings = length S; meters = length M; readings = length R; cells = length C })) ≡ openingVerdict S M R C a
+pub verdict-of : (S M R C D : List ℕ) (a : Opening)
+    → openingCheck a (anyShort a (record { settings = length S; meters = length M; readings = length R; cells = length C; days = length D })) ≡ openingVerdict S M R C D a
 unfolding openingVerdict
-verdict-of S M R C a = refl
+verdict-of S M R C D a = refl

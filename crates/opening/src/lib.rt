@@ -58,17 +58,19 @@ pub fn open(
     meters: &mut [u64],
     readings: &mut [u64],
     cells: &mut [u64],
+    days: &mut [u64],
     terms: OpeningTerms,
     category_records: &[u8],
     day_types: &[u8],
 ) -> Outcome
-    ensures { λ r. ⌜ OpeningMeets (now (settings .entry)) (now (meters .entry)) (now (readings .entry)) (now (cells .entry)) (openingCall terms (now («category_records» .entry)) (now («day_types» .entry))) (answerOf r) (now (settings .exit)) (now (meters .exit)) (now (readings .exit)) (now (cells .exit)) ⌝ }
+    ensures { λ r. ⌜ OpeningMeets (now (settings .entry)) (now (meters .entry)) (now (readings .entry)) (now (cells .entry)) (now (days .entry)) (openingCall terms (now («category_records» .entry)) (now («day_types» .entry))) (answerOf r) (now (settings .exit)) (now (meters .exit)) (now (readings .exit)) (now (cells .exit)) (now (days .exit)) ⌝ }
 {
     let lent = Lengths {
         settings: settings.len() as u64,
         meters: meters.len() as u64,
         readings: readings.len() as u64,
         cells: cells.len() as u64,
+        days: days.len() as u64,
     };
     let checked = opening_checked(lent, terms, category_records, day_types);
     if let Outcome::Refused { number, place } = checked {
@@ -79,5 +81,6 @@ pub fn open(
     empty(meters, least.meters);
     empty(readings, least.readings);
     empty(cells, least.cells);
+    empty(days, least.days);
     Outcome::Accepted
 }

@@ -2,6 +2,7 @@
 use metering::calendar;
 use metering::range;
 use settings::sizes::cells_length;
+use settings::sizes::days_length;
 use settings::sizes::meters_length;
 use settings::sizes::readings_length;
 use settings::sizes::settings_length;
@@ -19,6 +20,7 @@ pub struct Lengths {
     pub meters: u64,
     pub readings: u64,
     pub cells: u64,
+    pub days: u64,
 }
 
 pub fn sizes_valid(terms: OpeningTerms, category_records: &[u8], day_types: &[u8]) -> bool
@@ -52,6 +54,7 @@ pub fn least_lengths(terms: OpeningTerms, category_records: &[u8], day_types: &[
         meters: meters_length(terms.meters),
         readings: readings_length(terms.meters, dates, periods),
         cells: cells_length(categories, dates, periods),
+        days: days_length(categories, dates),
     }
 }
 
@@ -67,5 +70,8 @@ pub fn too_short(lent: Lengths, least: Lengths) -> bool
     if lent.readings < least.readings {
         return true;
     }
-    lent.cells < least.cells
+    if lent.cells < least.cells {
+        return true;
+    }
+    lent.days < least.days
 }

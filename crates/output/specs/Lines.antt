@@ -4,7 +4,7 @@ use mathlib.Core.Bool.{cond}
 use mathlib.Core.List.{List, [], _∷_, _++_}
 use lib.Dec.{eqb}
 use Rattle.ledger.specs.Method.{letterOf, Cell, Totals}
-use Rattle.ledger.specs.Ledger.{Answer, refused, accepted, moved, totalsAre, cellIs, netIs, bandIs, filledAre}
+use Rattle.ledger.specs.Ledger.{Answer, refused, accepted, moved, totalsAre, cellIs, netIs, bandIs, filledAre, coverageIs}
 use Rattle.output.specs.Text.{numberWord, energyWord}
 
 abbrev pub newline : List ℕ
@@ -39,7 +39,7 @@ originWord origin = cond (eqb origin 65535) (32 ∷ 45 ∷ []) (numberWord origi
 abbrev pub cellText : Cell → List ℕ
 cellText a = (32 ∷ letterOf (a .flag) ∷ []) ++ (energyWord (a .value) ++ (numberWord (a .count) ++ originWord (a .origin)))
 
--- the line for an answer to the command; none asks for a net, a band or a fill
+-- the line for an answer to the command; none asks for a net, a band, a fill or a coverage
 unfoldable pub answerLine : ℕ → Answer → List ℕ
 answerLine code accepted = acceptedText code ++ newline
 answerLine code (moved m) = acceptedText code ++ (numberWord m ++ newline)
@@ -48,4 +48,5 @@ answerLine code (cellIs a) = acceptedText code ++ (cellText a ++ newline)
 answerLine code (netIs n) = []
 answerLine code (bandIs b) = []
 answerLine code (filledAre v) = []
+answerLine code (coverageIs v) = []
 answerLine code (refused number place) = refusedLine code number place

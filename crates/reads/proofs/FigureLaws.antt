@@ -12,7 +12,7 @@ use lib.Dec.{leb, ltb, eqb}
 use Rattle.metering.specs.Sum.{sumBelow, sumBelow-le}
 use Rattle.metering.specs.Calendar.{periodsPerDay, liesWithin, windowStart, windowEnd}
 use Rattle.metering.specs.Average.{annual}
-use Rattle.ledger.specs.Method.{Totals, totOn, offOn, peakOn, totalsOn}
+use Rattle.ledger.specs.Method.{Totals, totOn, offOn, peakOn, freshAmong, blanksAmong, totalsOn}
 use Rattle.ledger.specs.Store.{durationOf, periodsOf, rowLength, categoryOf}
 use Rattle.ledger.specs.Calls.{cellFor, totalsFor}
 use Rattle.ledger.proofs.Lists.{sumBelow-more, sumBelow-none, sumBelow-cong, part-le}
@@ -165,7 +165,7 @@ module _ (s cells : List ℕ) (d c : ℕ) {column : Column} {duration number : �
         fresh = day .fresh;
         blanks = day .blanks;
       }) (totalsFor s cells d c)
-  unfolding totOn offOn peakOn totalsOn totalsFor cellFor rowLength
+  unfolding totOn offOn peakOn totalsOn totalsFor cellFor rowLength freshAmong blanksAmong
   totals-are {peak7 = peak7} n day-is week-is year-is p p7 a =
       let p7-is =
       peak-over (runIn column cells) 7 d (λ x. dayFigures column window cells x .tot) (λ x. dayFigures column window cells x .off) (off-below column window cells)

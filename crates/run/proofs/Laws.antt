@@ -14,9 +14,9 @@ use borrow.Author.Tests.{leb-false, not-false}
 use Rattle.ledger.specs.Method.{wattHours, present, sameFamily}
 use Rattle.ledger.specs.Checks.{runCheck}
 use Rattle.ledger.specs.Ready.{Ready, both}
-use Rattle.ledger.specs.Store.{metersOf, categoriesOf, datesOf, periodsOf, rowLength, categoryOf, dayTypeOf, settingsReady, metersReady, readingsReady, cellsReady, readingAt}
+use Rattle.ledger.specs.Store.{metersOf, categoriesOf, datesOf, periodsOf, rowLength, categoryOf, dayTypeOf, settingsReady, metersReady, readingsReady, cellsReady, daysReady, readingAt}
 use Rattle.ledger.specs.Table.{tabulate, filling}
-use Rattle.ledger.specs.Calls.{countsFor, tally, familyTally, freshAt, rowAt, putRow, lastRun, inheritedFrom, carriedEntry, carryOn, movedByRow, settled, newRow, ranFrom, runUnready, runVerdict}
+use Rattle.ledger.specs.Calls.{countsFor, tally, familyTally, freshAt, rowAt, Published, asPublished, publish, lastRun, inheritedFrom, carriedEntry, carryOn, movedByRow, settled, newRow, ranFrom, runUnready, runVerdict}
 use Rattle.entries.specs.Reading.{reading-bound}
 use Rattle.ledger.proofs.Walks.{row-put, carryOn-same, settled-same}
 use Rattle.ledger.proofs.Lists.{length-tabulate, getD-tabulate, sumBelow-cong, sumBelow-times}
@@ -79,14 +79,15 @@ module _ (s m r : List ℕ) (date : ℕ) (known : Ready s) where
 
 -- ---- the verdict
 
-pub parts-ready : (s m r cells : List ℕ) → runUnready s m r cells ≡ false →
-    (settingsReady s ≡ true) × (metersReady s m ≡ true) × (readingsReady s r ≡ true) × (cellsReady s cells ≡ true)
+pub parts-ready : (s m r cells days : List ℕ) → runUnready s m r cells days ≡ false →
+    (settingsReady s ≡ true) × (metersReady s m ≡ true) × (readingsReady s r ≡ true) × (cellsReady s cells ≡ true) × (daysReady s days ≡ true)
 unfolding runUnready
-parts-ready s m r cells h =
-    let p = both (settingsReady s && metersReady s m && readingsReady s r) (cellsReady s cells) (not-false _ h) in
+parts-ready s m r cells days h =
+    let t = both (settingsReady s && metersReady s m && readingsReady s r && cellsReady s cells) (daysReady s days) (not-false _ h) in
+    let p = both (settingsReady s && metersReady s m && readingsReady s r) (cellsReady s cells) (t .0) in
     let q = both (settingsReady s && metersReady s m) (readingsReady s r) (p .0) in
     let o = both (settingsReady s) (metersReady s m) (q .0) in
-    (o .0, o .1, q .1, p .1)
+    (o .0, o .1, q .1, p .1, t .1)
 
 zero-number : (a b : Bool) → _≡_ {A = ℕ} (cond a 1 (cond b 9 0)) 0 → (a ≡ false) × (b ≡ false)
 zero-number false false h = (refl, refl)
@@ -94,17 +95,17 @@ zero-number false true h = absurd (omega arith)
 zero-number true b h = absurd (omega arith)
 
 -- no check failed: all parts are ready, and the date is one
-pub accepted-run : (s m r cells : List ℕ) (date : ℕ) → runVerdict s m r cells date .number ≡ 0 →
-    (settingsReady s ≡ true) × (metersReady s m ≡ true) × (readingsReady s r ≡ true) × (cellsReady s cells ≡ true) × (date < datesOf s)
+pub accepted-run : (s m r cells days : List ℕ) (date : ℕ) → runVerdict s m r cells days date .number ≡ 0 →
+    (settingsReady s ≡ true) × (metersReady s m ≡ true) × (readingsReady s r ≡ true) × (cellsReady s cells ≡ true) × (daysReady s days ≡ true) × (date < datesOf s)
 unfolding runVerdict runCheck
-accepted-run s m r cells date h =
-    let p = zero-number (runUnready s m r cells) (leb (datesOf s) date) h in
-    let parts = parts-ready s m r cells (p .0) in
-    (parts .0, parts .1, parts .2, parts .3, leb-false _ _ (p .1))
+accepted-run s m r cells days date h =
+    let p = zero-number (runUnready s m r cells days) (leb (datesOf s) date) h in
+    let parts = parts-ready s m r cells days (p .0) in
+    (parts .0, parts .1, parts .2, parts .3, parts .4, leb-false _ _ (p .1))
 
-pub run-place : (s m r cells : List ℕ) (date : ℕ) → runVerdict s m r cells date .place ≡ 0
+pub run-place : (s m r cells days : List ℕ) (date : ℕ) → runVerdict s m r cells days date .place ≡ 0
 unfolding runVerdict
-run-place s m r cells date = refl
+run-place s m r cells days date = refl
 
 -- ---- what a run leaves
 
@@ -113,24 +114,25 @@ unfolding movedByRow
 moved-by-le n cells d new moved is = rw is (differing-le n _ new)
 
 -- the walk over later dates starts from the row just written
-module _ (s : List ℕ) (new : ℕ → ℕ) (cells : List ℕ) (date : ℕ) (fit : date * rowLength s + rowLength s ≤ length cells) where
-  pub settles : (at w : ℕ) (inherited inherited′ cells′ : List ℕ) (moved : ℕ) → at ≡ date * rowLength s → w ≡ rowLength s →
-      cells′ ≡ putRow (rowLength s) date (tabulate (rowLength s) new) cells →
+module _ (s : List ℕ) (new : ℕ → ℕ) (cells days : List ℕ) (date : ℕ) (fit : date * rowLength s + rowLength s ≤ length cells) where
+  pub settles : (t at w : ℕ) (inherited inherited′ cells′ days′ : List ℕ) (moved : ℕ) → t ≡ dayTypeOf s date → at ≡ date * rowLength s → w ≡ rowLength s →
+      asPublished cells′ days′ ≡ publish s date (tabulate (rowLength s) new) (asPublished cells days) →
       moved ≡ movedByRow (rowLength s) cells date new →
       inherited′ ≡ filling w (λ k. carriedEntry (getD cells′ (at + k) 0)) inherited →
-      carryOn putRow s (dayTypeOf s date) (datesOf s - (date + 1)) (λ k. getD inherited′ k 0) (date + 1) cells′ moved ≡ settled putRow s new cells date
+      carryOn publish s t (datesOf s - (date + 1)) (λ k. getD inherited′ k 0) (date + 1) (asPublished cells′ days′) moved
+      ≡ settled publish s new (asPublished cells days) date
   unfolding settled rowAt
-  settles at w inherited inherited′ cells′ moved start width put is carried =
+  settles t at w inherited inherited′ cells′ days′ moved day start width put is carried =
       let n : ℕ = rowLength s in
-      rw (add-one date)
-      (carryOn-same putRow s (dayTypeOf s date) (datesOf s - suc date) (λ k. getD inherited′ k 0) (λ k. carriedEntry (new k)) (suc date) cells′ moved
+      rw (day, add-one date)
+      (carryOn-same publish s (dayTypeOf s date) (datesOf s - suc date) (λ k. getD inherited′ k 0) (λ k. carriedEntry (new k)) (suc date) (asPublished cells′ days′) moved
       (λ k l.
       rw (carried, start, width) (filling-below (λ j. carriedEntry (getD cells′ (date * n + j) 0)) inherited n k l)
       ∙ ap carriedEntry
-      (ap (λ (xs : List ℕ). getD xs (date * n + k) 0) put ∙ row-put n date (tabulate n new) cells (length-tabulate n new) fit k l ∙ getD-tabulate n new k l))
-      ∙ ap₂ (carryOn putRow s (dayTypeOf s date) (datesOf s - suc date) (λ k. carriedEntry (new k)) (suc date)) put is)
+      (ap (λ (p : Published). getD (p .cells) (date * n + k) 0) put ∙ row-put n date (tabulate n new) cells (length-tabulate n new) fit k l ∙ getD-tabulate n new k l))
+      ∙ ap₂ (carryOn publish s (dayTypeOf s date) (datesOf s - suc date) (λ k. carriedEntry (new k)) (suc date)) put is)
 
-pub ran-is : (s m r cells : List ℕ) (new : ℕ → ℕ) (date : ℕ) → ((k : ℕ) → k < rowLength s → new k ≡ newRow s m r cells date k) →
-    settled putRow s new cells date ≡ ranFrom s m r cells date
+pub ran-is : (s m r cells days : List ℕ) (new : ℕ → ℕ) (date : ℕ) → ((k : ℕ) → k < rowLength s → new k ≡ newRow s m r cells date k) →
+    settled publish s new (asPublished cells days) date ≡ ranFrom s m r cells days date
 unfolding ranFrom
-ran-is s m r cells new date same = settled-same putRow s new (newRow s m r cells date) cells date same
+ran-is s m r cells days new date same = settled-same publish s new (newRow s m r cells date) (asPublished cells days) date same

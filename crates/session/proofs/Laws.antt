@@ -43,10 +43,10 @@ unfolding isOverfull
 day-type-room code x y f e = not-false y (rw e at f)
 
 -- what is collected is as long as the session says
-pub same-extent : (s : Session) (output : ℕ) (records types settings meters readings cells bytes : List ℕ) (capacity : Capacity) → Held s output (length records) (length types) →
-    storeProgram (setupOf records types capacity) .extent (stateOf s records types settings meters readings cells) bytes
+pub same-extent : (s : Session) (output : ℕ) (records types settings meters readings cells days bytes : List ℕ) (capacity : Capacity) → Held s output (length records) (length types) →
+    storeProgram (setupOf records types capacity) .extent (stateOf s records types settings meters readings cells days) bytes
     ≡ extentOf bytes (leb 8 (length records - s .«category_bytes»)) (ltb (s .«day_types») (length types))
-same-extent s output records types settings meters readings cells bytes capacity held =
+same-extent s output records types settings meters readings cells days bytes capacity held =
     rw (length-take-le (s .«category_bytes») records (held .categories), length-take-le (s .«day_types») types (held .dayTypes))
 
 -- ---- the bytes of a command, and those behind it

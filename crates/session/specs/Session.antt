@@ -67,12 +67,12 @@ setupOf categoryRecords dayTypes capacity =
     record { categoryRoom = length categoryRecords; dayTypeRoom = length dayTypes; capacity = capacity }
 
 -- what a session has collected, and its store
-abbrev pub stateOf : Session → List ℕ → List ℕ → List ℕ → List ℕ → List ℕ → List ℕ → State
-stateOf s categoryRecords dayTypes settings meters readings cells =
+abbrev pub stateOf : Session → List ℕ → List ℕ → List ℕ → List ℕ → List ℕ → List ℕ → List ℕ → State
+stateOf s categoryRecords dayTypes settings meters readings cells days =
     record {
       categoryBytes = take (s .«category_bytes») categoryRecords;
       dayTypes = take (s .«day_types») dayTypes;
-      parts = partsOf settings meters readings cells;
+      parts = partsOf settings meters readings cells days;
     }
 
 -- the bytes that a session has not yet taken

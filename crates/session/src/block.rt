@@ -61,6 +61,7 @@ fn obey_next(
     meters: &mut [u64],
     readings: &mut [u64],
     cells: &mut [u64],
+    days: &mut [u64],
     capacity: Capacity,
 ) -> Session
     requires { ⌜ BlockBounds session (length (now input)) × (session .stage ≡ Going) ⌝ }
@@ -68,7 +69,7 @@ fn obey_next(
     ensures { λ r. ⌜ Held r (length (now (output .entry))) (length (now («category_records» .entry))) (length (now («day_types» .entry))) ⌝ }
     ensures { λ r. ⌜ SameInput session r × BlockBounds r (length (now (input .entry))) ⌝ }
     ensures { λ r. ⌜ (isGoing (r .stage) ≡ true → session .at < r .at) ⌝ }
-    ensures { λ r. ⌜ Obeyed (setupOf (now («category_records» .entry)) (now («day_types» .entry)) capacity) (stateOf session (now («category_records» .entry)) (now («day_types» .entry)) (now (settings .entry)) (now (meters .entry)) (now (readings .entry)) (now (cells .entry))) (untaken session (now (input .entry))) (take (session .waiting) (now (output .entry))) (stateOf r (now («category_records» .exit)) (now («day_types» .exit)) (now (settings .exit)) (now (meters .exit)) (now (readings .exit)) (now (cells .exit))) (untaken r (now (input .entry))) (take (r .waiting) (now (output .exit))) (length (now (output .entry))) (r .stage) ⌝ }
+    ensures { λ r. ⌜ Obeyed (setupOf (now («category_records» .entry)) (now («day_types» .entry)) capacity) (stateOf session (now («category_records» .entry)) (now («day_types» .entry)) (now (settings .entry)) (now (meters .entry)) (now (readings .entry)) (now (cells .entry)) (now (days .entry))) (untaken session (now (input .entry))) (take (session .waiting) (now (output .entry))) (stateOf r (now («category_records» .exit)) (now («day_types» .exit)) (now (settings .exit)) (now (meters .exit)) (now (readings .exit)) (now (cells .exit)) (now (days .exit))) (untaken r (now (input .entry))) (take (r .waiting) (now (output .exit))) (length (now (output .entry))) (r .stage) ⌝ }
 {
     let mut next = session;
     if output.len() - next.waiting < 300 {
@@ -92,6 +93,7 @@ fn obey_next(
                 meters,
                 readings,
                 cells,
+                days,
                 capacity,
             )
         }
@@ -111,6 +113,7 @@ pub fn obey_all(
     meters: &mut [u64],
     readings: &mut [u64],
     cells: &mut [u64],
+    days: &mut [u64],
     capacity: Capacity,
 ) -> Session
     requires { ⌜ BlockBounds session (length (now input)) × (session .stage ≡ Going) ⌝ }
@@ -118,7 +121,7 @@ pub fn obey_all(
     ensures { λ r. ⌜ Held r (length (now (output .entry))) (length (now («category_records» .entry))) (length (now («day_types» .entry))) ⌝ }
     ensures { λ r. ⌜ SameInput session r × BlockBounds r (length (now (input .entry))) ⌝ }
     ensures { λ r. ⌜ isGoing (r .stage) ≡ false ⌝ }
-    ensures { λ r. ⌜ Obeyed (setupOf (now («category_records» .entry)) (now («day_types» .entry)) capacity) (stateOf session (now («category_records» .entry)) (now («day_types» .entry)) (now (settings .entry)) (now (meters .entry)) (now (readings .entry)) (now (cells .entry))) (untaken session (now (input .entry))) (take (session .waiting) (now (output .entry))) (stateOf r (now («category_records» .exit)) (now («day_types» .exit)) (now (settings .exit)) (now (meters .exit)) (now (readings .exit)) (now (cells .exit))) (untaken r (now (input .entry))) (take (r .waiting) (now (output .exit))) (length (now (output .entry))) (r .stage) ⌝ }
+    ensures { λ r. ⌜ Obeyed (setupOf (now («category_records» .entry)) (now («day_types» .entry)) capacity) (stateOf session (now («category_records» .entry)) (now («day_types» .entry)) (now (settings .entry)) (now (meters .entry)) (now (readings .entry)) (now (cells .entry)) (now (days .entry))) (untaken session (now (input .entry))) (take (session .waiting) (now (output .entry))) (stateOf r (now («category_records» .exit)) (now («day_types» .exit)) (now (settings .exit)) (now (meters .exit)) (now (readings .exit)) (now (cells .exit)) (now (days .exit))) (untaken r (now (input .entry))) (take (r .waiting) (now (output .exit))) (length (now (output .entry))) (r .stage) ⌝ }
 {
     let mut next = session;
     let mut going = true;
@@ -133,6 +136,7 @@ pub fn obey_all(
             meters,
             readings,
             cells,
+            days,
             capacity,
         );
         let stage = next.stage;

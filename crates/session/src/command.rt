@@ -21,6 +21,7 @@ pub fn obey(
     meters: &mut [u64],
     readings: &mut [u64],
     cells: &mut [u64],
+    days: &mut [u64],
     capacity: Capacity,
 ) -> Session
     requires { ⌜ Command (now command) × (session .waiting + 300 ≤ length (now output)) ⌝ }
@@ -28,8 +29,8 @@ pub fn obey(
     requires { ⌜ Room session (getD (now command) 0 0) (length (now «category_records»)) (length (now «day_types»)) ⌝ }
     ensures { λ r. ⌜ Held r (length (now (output .entry))) (length (now («category_records» .entry))) (length (now («day_types» .entry))) ⌝ }
     ensures { λ r. ⌜ SamePlace session r ⌝ }
-    ensures { λ r. ⌜ stateOf r (now («category_records» .exit)) (now («day_types» .exit)) (now (settings .exit)) (now (meters .exit)) (now (readings .exit)) (now (cells .exit)) ≡ stateAfter capacity (stateOf session (now («category_records» .entry)) (now («day_types» .entry)) (now (settings .entry)) (now (meters .entry)) (now (readings .entry)) (now (cells .entry))) (now (command .entry)) ⌝ }
-    ensures { λ r. ⌜ take (r .waiting) (now (output .exit)) ≡ take (session .waiting) (now (output .entry)) ++ lineFor capacity (stateOf session (now («category_records» .entry)) (now («day_types» .entry)) (now (settings .entry)) (now (meters .entry)) (now (readings .entry)) (now (cells .entry))) (now (command .entry)) ⌝ }
+    ensures { λ r. ⌜ stateOf r (now («category_records» .exit)) (now («day_types» .exit)) (now (settings .exit)) (now (meters .exit)) (now (readings .exit)) (now (cells .exit)) (now (days .exit)) ≡ stateAfter capacity (stateOf session (now («category_records» .entry)) (now («day_types» .entry)) (now (settings .entry)) (now (meters .entry)) (now (readings .entry)) (now (cells .entry)) (now (days .entry))) (now (command .entry)) ⌝ }
+    ensures { λ r. ⌜ take (r .waiting) (now (output .exit)) ≡ take (session .waiting) (now (output .entry)) ++ lineFor capacity (stateOf session (now («category_records» .entry)) (now («day_types» .entry)) (now (settings .entry)) (now (meters .entry)) (now (readings .entry)) (now (cells .entry)) (now (days .entry))) (now (command .entry)) ⌝ }
 {
     let mut next = session;
     let code = command[0];
@@ -53,6 +54,7 @@ pub fn obey(
             meters,
             readings,
             cells,
+            days,
             capacity,
             output,
             waiting,
@@ -67,6 +69,7 @@ pub fn obey(
         meters,
         readings,
         cells,
+        days,
         output,
         waiting,
     );

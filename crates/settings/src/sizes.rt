@@ -1,7 +1,7 @@
 // The least length of each part.
 ghost use mathlib.Core.Path.{_≡_};
 ghost use Prim.Native.Nat.{_≤_};
-ghost use Rattle.ledger.specs.Sizes.{settingsLength, metersLength, readingsLength, cellsLength};
+ghost use Rattle.ledger.specs.Sizes.{settingsLength, metersLength, readingsLength, cellsLength, daysLength};
 
 // Of the settings, before the category records.
 pub const HEADER_LENGTH: u64 = 8;
@@ -32,4 +32,11 @@ pub fn cells_length(categories: u64, dates: u64, periods: u64) -> u64
     ensures { λ r. ⌜ r ≡ cellsLength categories dates periods ⌝ }
 {
     dates * (categories * periods)
+}
+
+pub fn days_length(categories: u64, dates: u64) -> u64
+    requires { ⌜ (categories ≤ 64) × (dates ≤ 800) ⌝ }
+    ensures { λ r. ⌜ r ≡ daysLength categories dates ⌝ }
+{
+    categories * (2 * dates)
 }

@@ -8,6 +8,7 @@ fn main() {
     let mut meters = [0u64; 164];
     let mut readings = [0u64; 1568];
     let mut cells = [0u64; 1152];
+    let mut days = [0u64; 48];
     console::converse(
         &mut category_records,
         &mut day_types,
@@ -15,6 +16,7 @@ fn main() {
         &mut meters,
         &mut readings,
         &mut cells,
+        &mut days,
         Capacity {
             meters: 4,
             date_periods: 384,

@@ -8,7 +8,7 @@ use native.Mathlib.Omega.{arith}
 use lib.ListN.{length}
 use borrow.Author.Tests.{leb-true}
 use Rattle.ledger.specs.Sizes.{cellsLength}
-use Rattle.ledger.specs.Store.{datesOf, rowLength, cellsReady}
+use Rattle.ledger.specs.Store.{datesOf, rowLength, cellsReady, daysReady}
 
 cells-long : (s cells : List ℕ) → cellsReady s cells ≡ true → datesOf s * rowLength s ≤ length cells
 unfolding cellsReady cellsLength rowLength
@@ -21,3 +21,8 @@ row-fits s cells d h l = omega (arith, cells-long s cells h, suc-mul d (rowLengt
 pub still-ready : (s cells cells′ : List ℕ) → length cells′ ≡ length cells → cellsReady s cells ≡ true → cellsReady s cells′ ≡ true
 unfolding cellsReady
 still-ready s cells cells′ e h = rw e h
+
+-- and so do the days
+pub days-still-ready : (s days days′ : List ℕ) → length days′ ≡ length days → daysReady s days ≡ true → daysReady s days′ ≡ true
+unfolding daysReady
+days-still-ready s days days′ e h = rw e h

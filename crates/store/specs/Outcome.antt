@@ -4,7 +4,7 @@ use mathlib.Core.List.{List}
 use lib.IntN.{ℤ}
 use lib.ListN.{take}
 use Rattle.ledger.specs.Method as method
-use Rattle.ledger.specs.Ledger.{Answer, refused, accepted, moved, totalsAre, cellIs, netIs, bandIs, filledAre}
+use Rattle.ledger.specs.Ledger.{Answer, refused, accepted, moved, totalsAre, cellIs, netIs, bandIs, filledAre, coverageIs}
 use Rattle.entries.specs.Cell.{cellMeant}
 use Rattle.store.specs.declared.outcome.Outcome.{Outcome}
 use Rattle.store.specs.declared.outcome.Outcome.the-variants as outcome
@@ -19,6 +19,9 @@ use Rattle.store.specs.declared.outcome.NetOutcome.{NetOutcome}
 use Rattle.store.specs.declared.outcome.NetOutcome.the-variants as net
 use Rattle.store.specs.declared.outcome.BandOutcome.{BandOutcome}
 use Rattle.store.specs.declared.outcome.BandOutcome.the-variants as band
+use Rattle.store.specs.declared.outcome.Coverage.{Coverage}
+use Rattle.store.specs.declared.outcome.CoverageOutcome.{CoverageOutcome}
+use Rattle.store.specs.declared.outcome.CoverageOutcome.the-variants as coverage
 
 abbrev pub answerOf : Outcome → Answer
 answerOf outcome.Accepted = accepted
@@ -66,3 +69,11 @@ bandAnswer (band.Refused number place) dates = refused number place
 abbrev pub fillAnswer : ℕ → Outcome → List ℕ → Answer
 fillAnswer P outcome.Accepted filled = filledAre (take P filled)
 fillAnswer P (outcome.Refused number place) filled = refused number place
+
+abbrev pub coverageMeant : Coverage → method.Coverage
+coverageMeant c =
+    record { fresh7 = c .fresh7; blanks7 = c .blanks7; fresh365 = c .fresh365; blanks365 = c .blanks365; oldest = c .oldest }
+
+abbrev pub coverageAnswer : CoverageOutcome → Answer
+coverageAnswer (coverage.Coverage c) = coverageIs (coverageMeant c)
+coverageAnswer (coverage.Refused number place) = refused number place

@@ -58,3 +58,17 @@ pub enum BandOutcome {
     Band(Band),
     Refused { number: u64, place: u64 },
 }
+
+// FRESH and BLANK over the run dates among 7 and among 365, and the oldest origin of the date.
+pub struct Coverage {
+    pub fresh7: u64,
+    pub blanks7: u64,
+    pub fresh365: u64,
+    pub blanks365: u64,
+    pub oldest: u64,
+}
+
+pub enum CoverageOutcome {
+    Coverage(Coverage),
+    Refused { number: u64, place: u64 },
+}

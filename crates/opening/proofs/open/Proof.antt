@@ -15,7 +15,7 @@ use Rattle.opening.proofs.open.Statement.{statement}
 use Rattle.opening.proofs.open.Tie as tie
 
 abbrev start : tie.After-opening-checked → tie.Start
-start c = c .before .before .before .before .before .before .before
+start c = c .before .before .before .before .before .before .before .before
 
 abbrev begun : tie.After-enum-told → tie.Start
 begun c = start (c .before .before)
@@ -29,6 +29,9 @@ meters-emptied c = c .before .before .before
 abbrev readings-emptied : tie.After-empty-arg3 → tie.After-empty2
 readings-emptied c = c .before .before .before
 
+abbrev cells-emptied : tie.After-empty-arg4 → tie.After-empty3
+cells-emptied c = c .before .before .before
+
 abbrev least : tie.After-empty-arg → tie.After-least-lengths
 least c = settings-written c .before .before
 
@@ -36,16 +39,16 @@ abbrev call : tie.Start → Opening
 call s = let a = s .args in openingCall (a .terms) (now (a .category-records)) (now (a .day-types))
 
 told : (c : tie.After-enum-told) → let s = begun c in let a = s .args in
-    accepted ≡ answer (openingVerdict (now (a .settings)) (now (a .meters)) (now (a .readings)) (now (a .cells)) (call s)) accepted
+    accepted ≡ answer (openingVerdict (now (a .settings)) (now (a .meters)) (now (a .readings)) (now (a .cells)) (now (a .days)) (call s)) accepted
 told c =
     let s = begun c in
     let a = s .args in
-    rw (← verdict-of (now (a .settings)) (now (a .meters)) (now (a .readings)) (now (a .cells)) (call s))
+    rw (← verdict-of (now (a .settings)) (now (a .meters)) (now (a .readings)) (now (a .cells)) (now (a .days)) (call s))
     (sym (ap answerOf (c .enum-told .given .1)) ∙ c .before .before .opening-checked .ensures)
 
 passed : (c : tie.After-enum-told) → let s = begun c in let a = s .args in
-    OpeningAccepted (now (a .settings)) (now (a .meters)) (now (a .readings)) (now (a .cells)) (call s)
-passed c = opening-accepted _ _ _ _ _ (accepted-none _ (told c))
+    OpeningAccepted (now (a .settings)) (now (a .meters)) (now (a .readings)) (now (a .cells)) (now (a .days)) (call s)
+passed c = opening-accepted _ _ _ _ _ _ (accepted-none _ (told c))
 
 opening-checked-requires : tie.Need-opening-checked-requires
 opening-checked-requires c κs = search needs
@@ -58,8 +61,8 @@ returns c =
     let o = c .before .before .before in
     let s = start o in
     let a = s .args in
-    opening-refused _ _ _ _ _ _ _
-    (rw (← verdict-of (now (a .settings)) (now (a .meters)) (now (a .readings)) (now (a .cells)) (call s))
+    opening-refused _ _ _ _ _ _ _ _
+    (rw (← verdict-of (now (a .settings)) (now (a .meters)) (now (a .readings)) (now (a .cells)) (now (a .days)) (call s))
     (sym (ap answerOf (c .before .checked .given .1)) ∙ o .opening-checked .ensures))
 
 enum-told : tie.Need-enum-told
@@ -80,6 +83,11 @@ empty-requires-2 c κs = let l = least (meters-emptied c .before) in rw (ap (λ 
 empty-requires-3 : tie.Need-empty-requires-3
 empty-requires-3 c κs = let l = least (meters-emptied (readings-emptied c .before) .before) in rw (ap (λ n. n .cells) (l .least-lengths .ensures)) (passed (l .before) .cells-long)
 
+empty-requires-4 : tie.Need-empty-requires-4
+empty-requires-4 c κs =
+    let l = least (meters-emptied (readings-emptied (cells-emptied c .before) .before) .before) in
+    rw (ap (λ n. n .days) (l .least-lengths .ensures)) (passed (l .before) .days-long)
+
 same-length : tie.Need-same-length
 same-length c = search needs
 
@@ -92,20 +100,25 @@ same-length-3 c = search needs
 same-length-4 : tie.Need-same-length-4
 same-length-4 c = search needs
 
+same-length-5 : tie.Need-same-length-5
+same-length-5 c = search needs
+
 returns-2 : tie.Need-returns-2
 returns-2 c =
-    let cells = c .before .before in
+    let days = c .before .before in
+    let cells = cells-emptied (days .before) in
     let readings = readings-emptied (cells .before) in
     let meters = meters-emptied (readings .before) in
     let settings = settings-written (meters .before) in
     let l = least (meters .before) in
     let s = begun (l .before) in
     let a = s .args in
-    opening-done (now (a .settings)) (now (a .meters)) (now (a .readings)) (now (a .cells)) (call s) (lengthsMeant (l .least-lengths .result)) (told (l .before)) (l .least-lengths .ensures)
+    opening-done (now (a .settings)) (now (a .meters)) (now (a .readings)) (now (a .cells)) (now (a .days)) (call s) (lengthsMeant (l .least-lengths .result)) (told (l .before)) (l .least-lengths .ensures)
     (settings .write-settings .ensures)
     (meters .empty .ensures)
     (readings .empty2 .ensures)
     (cells .empty3 .ensures)
+    (days .empty4 .ensures)
 
 pub open-spec : {M : Type 1} → statement M
 open-spec =
@@ -120,8 +133,10 @@ open-spec =
     empty-requires
     empty-requires-2
     empty-requires-3
+    empty-requires-4
     same-length
     same-length-2
     same-length-3
     same-length-4
+    same-length-5
     returns-2)

@@ -11,7 +11,7 @@ use Rattle.run.proofs.run_accepted.Statement.{statement}
 use Rattle.run.proofs.run_accepted.Tie as tie
 
 abbrev start : tie.After-inherited → tie.Start
-start c = c .before .before .before .before .before .before .before .before
+start c = c .before .before .before .before .before .before .before .before .before .before
 
 blank-is : _≡_ {A = ℕ} 4294901764 (entryOf blank)
 unfolding entryOf blank
@@ -41,6 +41,9 @@ run-with-requires c κs =
 same-length : tie.Need-same-length
 same-length c = search needs
 
+same-length-2 : tie.Need-same-length-2
+same-length-2 c = search needs
+
 returns : tie.Need-returns
 returns c = search needs
 
@@ -53,4 +56,5 @@ run-accepted-spec =
     slice-aggregate-run-with-3
     run-with-requires
     same-length
+    same-length-2
     returns)

@@ -11,9 +11,9 @@ use Rattle.run.proofs.run_number.Statement.{statement}
 use Rattle.run.proofs.run_number.Tie as tie
 
 abbrev start : tie.After-run-unready → tie.Start
-start c = c .before .before .before .before .before
+start c = c .before .before .before .before .before .before
 
-passed : (c : tie.Else1) → let a = start (c .before) .args in runUnready (a .settings .now) (a .meters .now) (a .readings .now) (a .cells .now) ≡ false
+passed : (c : tie.Else1) → let a = start (c .before) .args in runUnready (a .settings .now) (a .meters .now) (a .readings .now) (a .cells .now) (a .days .now) ≡ false
 passed c = sym (c .before .run-unready .ensures) ∙ c .if1 .left
 
 run-unready-requires : tie.Need-run-unready-requires
@@ -24,7 +24,7 @@ unfolding runVerdict runCheck
 returns c = rw (sym (c .before .run-unready .ensures) ∙ c .if1 .taken)
 
 date-count-requires : tie.Need-date-count-requires
-date-count-requires c κs = header-there _ (parts-ready _ _ _ _ (passed c) .0)
+date-count-requires c κs = header-there _ (parts-ready _ _ _ _ _ (passed c) .0)
 
 returns-2 : tie.Need-returns-2
 unfolding runVerdict runCheck

@@ -1,9 +1,8 @@
 -- `run::run_with` meets its contract: the row written is the definition's new row, and the rest follows it.
-use mathlib.Core.Path.{ap, _∙_}
+use mathlib.Core.Path.{_∙_}
 use borrow.Author.Needs.{needs}
 use Rattle.ledger.specs.Ready.{ready}
 use Rattle.ledger.specs.Method.{wattHours, present}
-use Rattle.ledger.specs.Calls.{Ran}
 use Rattle.run_date.proofs.Laws.{tallied-zero}
 use Rattle.run.proofs.Laws.{tallied-bounded, new-is, ran-is}
 use Rattle.run.proofs.run_with.Statement.{statement}
@@ -13,25 +12,25 @@ abbrev summed : tie.After-inherit → tie.After-tally-date
 summed c = c .before .before .before .before .before .before .before
 
 abbrev start : tie.After-tally-date → tie.Start
-start c = c .before .before .before .before .before .before .before .before .before .before
+start c = c .before .before .before .before .before .before .before .before .before .before .before
 
 abbrev start-of-after-tally-date-arg2 : tie.After-tally-date-arg2 → tie.Start
-start-of-after-tally-date-arg2 c = c .before .before .before .before .before .before .before .before .before
+start-of-after-tally-date-arg2 c = c .before .before .before .before .before .before .before .before .before .before
 
 abbrev after-tally-date : tie.After-inherit-arg2 → tie.After-tally-date
 after-tally-date c = c .before .before .before .before .before .before
 
-abbrev after-inherit : tie.After-settle-arg4 → tie.After-inherit
-after-inherit c = c .before .before .before .before .before .before
+abbrev after-inherit : tie.After-settle-arg5 → tie.After-inherit
+after-inherit c = c .before .before .before .before .before .before .before
 
-abbrev after-settle : tie.After-slice-known9 → tie.After-settle
-after-settle c = c .before .before .before .before
+abbrev after-settle : tie.After-slice-known11 → tie.After-settle
+after-settle c = c .before .before .before .before .before .before
 
 tally-date-requires : tie.Need-tally-date-requires
 tally-date-requires c κs =
     let s = start-of-after-tally-date-arg2 c in
     let a = s .args in (
-      (s .pre .0 .0, s .pre .0 .1, s .pre .0 .2, s .pre .0 .4),
+      (s .pre .0 .0, s .pre .0 .1, s .pre .0 .2, s .pre .0 .5),
       (
         (s .pre .1 .0 .0, s .pre .1 .0 .1),
         (
@@ -44,7 +43,7 @@ tally-date-requires c κs =
 inherit-requires : tie.Need-inherit-requires
 inherit-requires c κs =
     let s = start (after-tally-date c) in
-    ((s .pre .0 .0, s .pre .0 .3), ((s .pre .0 .4, s .pre .1 .0 .2), λ k l. s .pre .1 .1 k l .2))
+    ((s .pre .0 .0, s .pre .0 .3), ((s .pre .0 .5, s .pre .1 .0 .2), λ k l. s .pre .1 .1 k l .2))
 
 settle-requires : tie.Need-settle-requires
 settle-requires c κs =
@@ -53,7 +52,7 @@ settle-requires c κs =
     let s = start (summed i) in
     let a = s .args in
     let S = a .settings .now in (
-      (s .pre .0 .0, s .pre .0 .3, s .pre .0 .4),
+      (s .pre .0 .0, s .pre .0 .3, s .pre .0 .4, s .pre .0 .5),
       (
         rw (tallied .kept .1 .1 .1 .1 .0) (s .pre .1 .0 .0),
         rw (tallied .kept .1 .1 .1 .1 .1 .0) (s .pre .1 .0 .1),
@@ -74,6 +73,9 @@ same-length-3 c = search needs
 same-length-4 : tie.Need-same-length-4
 same-length-4 c = search needs
 
+same-length-5 : tie.Need-same-length-5
+same-length-5 c = search needs
+
 returns : tie.Need-returns
 returns c =
     let i = after-inherit (after-settle c .before) in
@@ -84,9 +86,7 @@ returns c =
     let new =
     new-is S (a .meters .now) (a .readings .now) (a .date) (ready S (s .pre .0 .0)) (tallied .last .1 .1 .1 .1 .0) (tallied .last .1 .1 .1 .1 .1 .0)
     (tallied .ensures .0) (tallied .ensures .1) (a .cells .now) (i .inherit .last .1 .1 .1 .0) (i .inherit .ensures) in
-    let is = ran-is S (a .meters .now) (a .readings .now) (a .cells .now) _ (a .date) new in
-    let e = after-settle c .settle .ensures in
-    (e .0 ∙ ap (λ (x : Ran). x .cells) is, e .1 ∙ ap (λ (x : Ran). x .moved) is)
+    after-settle c .settle .ensures ∙ ran-is S (a .meters .now) (a .readings .now) (a .cells .now) (a .days .now) _ (a .date) new
 
 pub run-with-spec : {M : Type 1} → statement M
 run-with-spec =
@@ -99,4 +99,5 @@ run-with-spec =
     same-length-2
     same-length-3
     same-length-4
+    same-length-5
     returns)

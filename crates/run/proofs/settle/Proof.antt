@@ -5,31 +5,30 @@ use native.Mathlib.Omega.{arith}
 use borrow.Author.Needs.{needs}
 use lib.ListN.{length}
 use Rattle.ledger.specs.Ready.{ready, row-bounds}
-use Rattle.ledger.specs.Store.{rowLength, dayTypeOf}
-use Rattle.ledger.specs.Calls.{Ran}
-use Rattle.store.proofs.RowLaws.{row-fits, still-ready}
+use Rattle.ledger.specs.Store.{rowLength}
+use Rattle.store.proofs.RowLaws.{row-fits, still-ready, days-still-ready}
 use Rattle.later_dates.proofs.Laws.{within, wide}
 use Rattle.run.proofs.Laws.{moved-by-le, settles}
 use Rattle.run.proofs.settle.Statement.{statement}
 use Rattle.run.proofs.settle.Tie as tie
 
 abbrev written : tie.After-row-length → tie.After-write-date
-written c = c .before .before .before
+written c = c .before .before .before .before .before
 
 abbrev start : tie.After-write-date → tie.Start
-start c = c .before .before .before .before .before .before .before .before
+start c = c .before .before .before .before .before .before .before .before .before .before
 
 abbrev after-row-length : tie.After-day-type → tie.After-row-length
-after-row-length c = c .before .before .before .before .before .before .before .before
+after-row-length c = c .before .before .before .before .before .before .before .before .before
 
-abbrev after-carry-row : tie.After-write-later-arg2 → tie.After-carry-row
+abbrev after-carry-row : tie.After-day-type → tie.After-carry-row
 after-carry-row c = c .before .before .before .before .before
 
-abbrev after-write-later-arg2 : tie.After-slice-known6 → tie.After-write-later-arg2
-after-write-later-arg2 c = c .before .before .before .before .before
+abbrev after-write-later : tie.After-slice-known9 → tie.After-write-later
+after-write-later c = c .before .before .before .before .before .before
 
 row : (c : tie.After-write-date) → let a = start c .args in a .date * rowLength (a .settings .now) + rowLength (a .settings .now) ≤ length (a .cells .now)
-row c = let s = start c in row-fits (s .args .settings .now) (s .args .cells .now) (s .args .date) (s .pre .0 .1) (s .pre .0 .2)
+row c = let s = start c in row-fits (s .args .settings .now) (s .args .cells .now) (s .args .date) (s .pre .0 .1) (s .pre .0 .3)
 
 -- where the code takes the date's row to start
 at : (c : tie.After-row-start) → let a = start (written (c .before .before)) .args in c .row-start .result ≡ a .date * rowLength (a .settings .now)
@@ -59,7 +58,7 @@ add-write-later : tie.Need-add-write-later
 add-write-later c =
     let s = start (written (after-row-length c)) in
     let known = ready _ (s .pre .0 .0) in
-    omega (arith, s .pre .0 .2, known .dates .1)
+    omega (arith, s .pre .0 .3, known .dates .1)
 
 write-later-requires : tie.Need-write-later-requires
 write-later-requires c κs =
@@ -67,11 +66,15 @@ write-later-requires c κs =
     let s = start w in
     let S = s .args .settings .now in
     let most : w .write-date .result ≤ rowLength S = moved-by-le _ _ _ _ _ (w .write-date .ensures .1) in (
-      (s .pre .0 .0, still-ready S (s .args .cells .now) (w .write-date .last .1 .1 .1 .1 .0) (w .write-date .kept .1 .1 .1 .1 .0) (s .pre .0 .1)),
       (
-        omega (arith, s .pre .0 .2),
+        s .pre .0 .0,
+        still-ready S (s .args .cells .now) (w .write-date .last .1 .1 .1 .1 .0) (w .write-date .kept .1 .1 .1 .1 .0) (s .pre .0 .1),
+        days-still-ready S (s .args .days .now) (w .write-date .last .1 .1 .1 .1 .1 .0) (w .write-date .kept .1 .1 .1 .1 .1 .0) (s .pre .0 .2),
+      ),
+      (
+        omega (arith, s .pre .0 .3),
         omega (arith, row-bounds S (ready S (s .pre .0 .0))),
-        rw (after-carry-row c .carry-row .kept .1 .1 .1 .0) (s .pre .1 .2),
+        rw (after-carry-row (c .before) .carry-row .kept .1 .1 .1 .0) (s .pre .1 .2),
       ),
     )
 
@@ -81,18 +84,21 @@ same-length c = search needs
 same-length-2 : tie.Need-same-length-2
 same-length-2 c = search needs
 
+same-length-3 : tie.Need-same-length-3
+same-length-3 c = search needs
+
 returns : tie.Need-returns
 returns c =
-    let r = after-carry-row (after-write-later-arg2 c) .before .before in
+    let l = after-write-later c in
+    let t = l .before .before in
+    let k = after-carry-row t in
+    let r = k .before .before in
     let w = written (r .before .before) in
     let a = start w .args in
     let S = a .settings .now in
-    let e = c .before .before .before .before .write-later .ensures in
-    let day : c .before .before .before .before .before .before .day-type .result ≡ dayTypeOf S (a .date) = c .before .before .before .before .before .before .day-type .ensures in
-    let is =
-    settles S _ (a .cells .now) (a .date) (row w) _ _ (a .inherited .now) (after-carry-row (after-write-later-arg2 c) .carry-row .last .1 .1 .1 .0) (w .write-date .last .1 .1 .1 .1 .0) (w .write-date .result)
-    (at r) (r .before .before .row-length .ensures) (w .write-date .ensures .0) (w .write-date .ensures .1) (after-carry-row (after-write-later-arg2 c) .carry-row .ensures) in
-    (rw day at (e .0) ∙ ap (λ (x : Ran). x .cells) is, rw day at (e .1) ∙ ap (λ (x : Ran). x .moved) is)
+    l .write-later .ensures
+    ∙ settles S _ (a .cells .now) (a .days .now) (a .date) (row w) _ _ _ (a .inherited .now) (k .carry-row .last .1 .1 .1 .0) (w .write-date .last .1 .1 .1 .1 .0) (w .write-date .last .1 .1 .1 .1 .1 .0) (w .write-date .result)
+    (t .day-type .ensures) (at r) (r .before .before .row-length .ensures) (w .write-date .ensures .0) (w .write-date .ensures .1) (k .carry-row .ensures)
 
 pub settle-spec : {M : Type 1} → statement M
 settle-spec =
@@ -107,4 +113,5 @@ settle-spec =
     write-later-requires
     same-length
     same-length-2
+    same-length-3
     returns)

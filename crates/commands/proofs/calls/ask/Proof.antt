@@ -10,7 +10,7 @@ use Rattle.commands.proofs.calls.ask.Tie as tie
 
 -- the entry, from where the code is matched
 abbrev start : tie.After-shared-slice-known3 → tie.Start
-start c = c .before .before .before .before .before .before .before
+start c = c .before .before .before .before .before .before .before .before
 
 abbrev at-match-keys2 : tie.After-receive-arg3 → tie.At-match-keys2
 at-match-keys2 c = c .before .before .before
@@ -18,23 +18,23 @@ at-match-keys2 c = c .before .before .before
 abbrev at-match-keys1 : tie.After-register-arg3 → tie.At-match-keys1
 at-match-keys1 c = c .before .before .before
 
-abbrev at-match-keys3 : tie.After-run-arg4 → tie.At-match-keys3
-at-match-keys3 c = c .before .before .before .before
+abbrev at-match-keys3 : tie.After-run-arg5 → tie.At-match-keys3
+at-match-keys3 c = c .before .before .before .before .before
 
-abbrev at-match-keys4 : tie.After-slice-known11 → tie.At-match-keys4
+abbrev at-match-keys4 : tie.After-slice-known13 → tie.At-match-keys4
 at-match-keys4 c = c .before .before .before .before .before
 
-abbrev at-match-rest : tie.After-slice-known12 → tie.At-match-rest
+abbrev at-match-rest : tie.After-slice-known14 → tie.At-match-rest
 at-match-rest c = c .before .before .before .before .before
 
-abbrev after-register : tie.After-slice-known6 → tie.After-register
+abbrev after-register : tie.After-slice-known7 → tie.After-register
 after-register c = c .before .before .before .before
 
-abbrev after-receive : tie.After-slice-known8 → tie.After-receive
+abbrev after-receive : tie.After-slice-known9 → tie.After-receive
 after-receive c = c .before .before .before .before
 
-abbrev after-run : tie.After-slice-known10 → tie.After-run
-after-run c = c .before .before .before .before
+abbrev after-run : tie.After-slice-known12 → tie.After-run
+after-run c = c .before .before .before .before .before .before
 
 shared-slice-read-code : tie.Need-shared-slice-read-code
 shared-slice-read-code c = some-there _ (start c .pre .0 .0)
@@ -92,7 +92,7 @@ returns c =
     let m = at-match-keys1 (after-register c .before) in
     let a = start (m .before) .args in
     let done = after-register c .register .ensures in
-    let told = registered (now (a .settings)) (now (a .meters)) (now (a .readings)) (now (a .cells)) (now (a .command)) (now (a .out)) _ (a .at) _ _ (m .match .keys1) (done .0) (done .1 .0) in
+    let told = registered (now (a .settings)) (now (a .meters)) (now (a .readings)) (now (a .cells)) (now (a .days)) (now (a .command)) (now (a .out)) _ (a .at) _ _ (m .match .keys1) (done .0) (done .1 .0) in
     (told .0, (told .1, done .1 .1))
 
 same-length-4 : tie.Need-same-length-4
@@ -109,7 +109,7 @@ returns-2 c =
     let m = at-match-keys2 (after-receive c .before) in
     let a = start (m .before) .args in
     let done = after-receive c .receive .ensures in
-    let told = received (now (a .settings)) (now (a .meters)) (now (a .readings)) (now (a .cells)) (now (a .command)) (now (a .out)) _ (a .at) _ _ (m .match .keys2) (done .0) (done .1 .0) in
+    let told = received (now (a .settings)) (now (a .meters)) (now (a .readings)) (now (a .cells)) (now (a .days)) (now (a .command)) (now (a .out)) _ (a .at) _ _ (m .match .keys2) (done .0) (done .1 .0) in
     (told .0, (told .1, done .1 .1))
 
 same-length-7 : tie.Need-same-length-7
@@ -124,40 +124,43 @@ same-length-9 c = search needs
 same-length-10 : tie.Need-same-length-10
 same-length-10 c = search needs
 
+same-length-11 : tie.Need-same-length-11
+same-length-11 c = search needs
+
 returns-3 : tie.Need-returns-3
 returns-3 c =
     let m = at-match-keys3 (after-run c .before) in
     let a = start (m .before) .args in
     let done = after-run c .run .ensures in
-    let told = ran (now (a .settings)) (now (a .meters)) (now (a .readings)) (now (a .cells)) (now (a .command)) (now (a .out)) _ (a .at) _ _ (m .match .keys3) (done .0) (done .1 .0) in
-    (told .0, (told .1, done .1 .1))
-
-same-length-11 : tie.Need-same-length-11
-same-length-11 c = search needs
+    let told = ran (now (a .settings)) (now (a .meters)) (now (a .readings)) (now (a .cells)) (now (a .days)) (now (a .command)) (now (a .out)) _ (a .at) _ _ _ (m .match .keys3) (done .0) (done .1 .0) (done .1 .1 .0) in
+    (told .0, (told .1, done .1 .1 .1))
 
 same-length-12 : tie.Need-same-length-12
 same-length-12 c = search needs
+
+same-length-13 : tie.Need-same-length-13
+same-length-13 c = search needs
 
 returns-4 : tie.Need-returns-4
 returns-4 c =
     let m = at-match-keys4 c in
     let a = start (m .before) .args in
     let done = c .before .before .totals .ensures in
-    let told = totals-read (now (a .settings)) (now (a .meters)) (now (a .readings)) (now (a .cells)) (now (a .command)) (now (a .out)) _ (a .at) _ (m .match .keys4) (done .0) in
+    let told = totals-read (now (a .settings)) (now (a .meters)) (now (a .readings)) (now (a .cells)) (now (a .days)) (now (a .command)) (now (a .out)) _ (a .at) _ (m .match .keys4) (done .0) in
     (told .0, (told .1, done .1))
-
-same-length-13 : tie.Need-same-length-13
-same-length-13 c = search needs
 
 same-length-14 : tie.Need-same-length-14
 same-length-14 c = search needs
+
+same-length-15 : tie.Need-same-length-15
+same-length-15 c = search needs
 
 returns-5 : tie.Need-returns-5
 returns-5 c =
     let m = at-match-rest c in
     let a = start (m .before) .args in
     let done = c .before .before .cell .ensures in
-    let told = cell-read (now (a .settings)) (now (a .meters)) (now (a .readings)) (now (a .cells)) (now (a .command)) (now (a .out)) _ (a .at) _ (reads-cell m) (done .0) in
+    let told = cell-read (now (a .settings)) (now (a .meters)) (now (a .readings)) (now (a .cells)) (now (a .days)) (now (a .command)) (now (a .out)) _ (a .at) _ (reads-cell m) (done .0) in
     (told .0, (told .1, done .1))
 
 pub ask-spec : {M : Type 1} → statement M
@@ -182,10 +185,11 @@ ask-spec =
     same-length-8
     same-length-9
     same-length-10
-    returns-3
     same-length-11
+    returns-3
     same-length-12
-    returns-4
     same-length-13
+    returns-4
     same-length-14
+    same-length-15
     returns-5)

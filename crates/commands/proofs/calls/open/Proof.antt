@@ -11,19 +11,19 @@ use Rattle.commands.proofs.calls.open.Statement.{statement}
 use Rattle.commands.proofs.calls.open.Tie as tie
 
 abbrev start : tie.After-parts-suffice → tie.Start
-start c = c .before .before .before .before .before .before .before .before .before .before
+start c = c .before .before .before .before .before .before .before .before .before .before .before
 
-abbrev then1 : tie.After-slice-known10 → tie.Then1
-then1 c = c .before .before .before .before .before .before .before .before .before .before .before .before .before .before .before .before .before
+abbrev then1 : tie.After-slice-known12 → tie.Then1
+then1 c = c .before .before .before .before .before .before .before .before .before .before .before .before .before .before .before .before .before .before .before .before
 
-abbrev else1 : tie.After-slice-known15 → tie.Else1
-else1 c = c .before .before .before .before .before .before .before .before .before .before .before .before .before .before .before .before .before
+abbrev else1 : tie.After-slice-known18 → tie.Else1
+else1 c = c .before .before .before .before .before .before .before .before .before .before .before .before .before .before .before .before .before .before .before .before
 
 abbrev asked : tie.After-parts-suffice → Opening
 asked c = let a = start c .args in openingOf (now (a .command)) (now (a .category-records)) (now (a .day-types))
 
 abbrev parts : tie.After-parts-suffice → Parts
-parts c = let a = start c .args in partsOf (now (a .settings)) (now (a .meters)) (now (a .readings)) (now (a .cells))
+parts c = let a = start c .args in partsOf (now (a .settings)) (now (a .meters)) (now (a .readings)) (now (a .cells)) (now (a .days))
 
 suffices : (c : tie.After-parts-suffice) → c .parts-suffice .result ≡ sufficesFor (start c .args .capacity) (asked c)
 suffices c = rw (c .before .opening-operands .ensures) at (c .parts-suffice .ensures)
@@ -55,10 +55,13 @@ same-length-4 c = search needs
 same-length-5 : tie.Need-same-length-5
 same-length-5 c = search needs
 
+same-length-6 : tie.Need-same-length-6
+same-length-6 c = search needs
+
 returns : tie.Need-returns
 returns c =
-    let t = c .before .before .before .before .before .before .before .before .before .before .before .before in
-    let s = c .before .before .before .before .before .before .before .before .before .before .before .before .before .before .before .before .before .before in
+    let t = c .before .before .before .before .before .before .before .before .before .before .before .before .before .before in
+    let s = c .before .before .before .before .before .before .before .before .before .before .before .before .before .before .before .before .before .before .before .before .before in
     let enough = sym (suffices s) ∙ then1 c .if1 .taken in
     let opened = rw (s .before .opening-operands .ensures) at (t .«open» .ensures) in
     let put = c .before .before .append-outcome .ensures in
@@ -88,14 +91,17 @@ slice-relend-prefix-open-4 c = search needs
 slice-aggregate-open-4 : tie.Need-slice-aggregate-open-4
 slice-aggregate-open-4 c = search needs
 
+slice-relend-prefix-open-5 : tie.Need-slice-relend-prefix-open-5
+slice-relend-prefix-open-5 c = search needs
+
+slice-aggregate-open-5 : tie.Need-slice-aggregate-open-5
+slice-aggregate-open-5 c = search needs
+
 open-requires-2 : tie.Need-open-requires-2
 open-requires-2 c κs = search needs
 
 append-outcome-requires-2 : tie.Need-append-outcome-requires-2
 append-outcome-requires-2 c κs = search needs
-
-same-length-6 : tie.Need-same-length-6
-same-length-6 c = search needs
 
 same-length-7 : tie.Need-same-length-7
 same-length-7 c = search needs
@@ -109,10 +115,16 @@ same-length-9 c = search needs
 same-length-10 : tie.Need-same-length-10
 same-length-10 c = search needs
 
+same-length-11 : tie.Need-same-length-11
+same-length-11 c = search needs
+
+same-length-12 : tie.Need-same-length-12
+same-length-12 c = search needs
+
 returns-2 : tie.Need-returns-2
 returns-2 c =
-    let t = c .before .before .before .before .before .before .before .before .before .before .before .before .open2 in
-    let s = c .before .before .before .before .before .before .before .before .before .before .before .before .before .before .before .before .before .before in
+    let t = c .before .before .before .before .before .before .before .before .before .before .before .before .before .before .open2 in
+    let s = c .before .before .before .before .before .before .before .before .before .before .before .before .before .before .before .before .before .before .before .before .before in
     let short = sym (suffices s) ∙ else1 c .if1 .left in
     let opened = rw (s .before .opening-operands .ensures) at (t .ensures) in
     let put = c .before .before .append-outcome2 .ensures in
@@ -120,7 +132,8 @@ returns-2 c =
     (none-before (t .last .0) _ (omega (arith, t .kept)))
     (none-before (t .last .1 .0) _ (omega (arith, t .kept)))
     (none-before (t .last .1 .1 .0) _ (omega (arith, t .kept)))
-    (none-before (t .last .1 .1 .1 .0) _ (omega (arith, t .kept))) in
+    (none-before (t .last .1 .1 .1 .0) _ (omega (arith, t .kept)))
+    (none-before (t .last .1 .1 .1 .1 .0) _ (omega (arith, t .kept))) in
     (kept-line (start s .args .capacity) (parts s) (asked s) short opened (put .0), (kept, put .1))
 
 pub open-spec : {M : Type 1} → statement M
@@ -136,6 +149,7 @@ open-spec =
     same-length-3
     same-length-4
     same-length-5
+    same-length-6
     returns
     slice-relend-prefix-open
     slice-aggregate-open
@@ -145,11 +159,14 @@ open-spec =
     slice-aggregate-open-3
     slice-relend-prefix-open-4
     slice-aggregate-open-4
+    slice-relend-prefix-open-5
+    slice-aggregate-open-5
     open-requires-2
     append-outcome-requires-2
-    same-length-6
     same-length-7
     same-length-8
     same-length-9
     same-length-10
+    same-length-11
+    same-length-12
     returns-2)

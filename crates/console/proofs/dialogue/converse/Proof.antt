@@ -6,8 +6,8 @@ use Rattle.session.specs.declared.held.Session.{Session}
 use Rattle.console.proofs.dialogue.converse.Statement.{statement}
 use Rattle.console.proofs.dialogue.converse.Tie as tie
 
-abbrev turns : tie.After-slice-known12 → tie.After-take-turns
-turns c = c .before .before .before .before .before .before .before .before .before .before .before .before .before .before
+abbrev turns : tie.After-slice-known14 → tie.After-take-turns
+turns c = c .before .before .before .before .before .before .before .before .before .before .before .before .before .before .before .before
 
 large-buffer-requires : tie.Need-large-buffer-requires
 large-buffer-requires c κs = search needs
@@ -51,6 +51,9 @@ same-length-5 c = search needs
 same-length-6 : tie.Need-same-length-6
 same-length-6 c = search needs
 
+same-length-7 : tie.Need-same-length-7
+same-length-7 c = search needs
+
 returns : tie.Need-returns
 returns c =
     let told = c .before .before in
@@ -62,9 +65,6 @@ returns c =
           ⊎-elim (λ written. inl (ap (λ (x : Session). x .stage) written)) (λ failed. inr (told .enum-told .given .1, ap (λ (x : Session). x .stage) (failed .0)))
           (c .flush .ensures);
     }
-
-same-length-7 : tie.Need-same-length-7
-same-length-7 c = search needs
 
 same-length-8 : tie.Need-same-length-8
 same-length-8 c = search needs
@@ -80,6 +80,12 @@ same-length-11 c = search needs
 
 same-length-12 : tie.Need-same-length-12
 same-length-12 c = search needs
+
+same-length-13 : tie.Need-same-length-13
+same-length-13 c = search needs
+
+same-length-14 : tie.Need-same-length-14
+same-length-14 c = search needs
 
 returns-2 : tie.Need-returns-2
 returns-2 c = record { last = _; ran = turns (c .before) .take-turns .ensures .1; left = refl; why = inl refl }
@@ -102,11 +108,13 @@ converse-spec =
     same-length-4
     same-length-5
     same-length-6
-    returns
     same-length-7
+    returns
     same-length-8
     same-length-9
     same-length-10
     same-length-11
     same-length-12
+    same-length-13
+    same-length-14
     returns-2)

@@ -15,13 +15,13 @@ use Rattle.console.proofs.dialogue.take_turns.Statement.{statement}
 use Rattle.console.proofs.dialogue.take_turns.Tie as tie
 
 abbrev Inv-loop : tie.InvT-loop
-Inv-loop input₀ output₀ category-records₀ day-types₀ settings₀ meters₀ readings₀ cells₀ capacity session₀ going₀ input output category-records day-types settings meters readings cells session going =
+Inv-loop input₀ output₀ category-records₀ day-types₀ settings₀ meters₀ readings₀ cells₀ days₀ capacity session₀ going₀ input output category-records day-types settings meters readings cells days session going =
     BlockBounds session (length input₀) ×
     Held session (length output₀) (length category-records₀) (length day-types₀) ×
     ((300 ≤ length output₀) × (2056 ≤ length input₀)) ×
     (going ≡ isGoing (session .stage)) ×
-    ((ds : List Dialogue) × Turns (setupOf category-records₀ day-types₀ capacity) (begun (partsOf settings₀ meters₀ readings₀ cells₀)) ds
-    (dialogueOf session input output category-records day-types settings meters readings cells) ×
+    ((ds : List Dialogue) × Turns (setupOf category-records₀ day-types₀ capacity) (begun (partsOf settings₀ meters₀ readings₀ cells₀ days₀)) ds
+    (dialogueOf session input output category-records day-types settings meters readings cells days) ×
     (length ds + session .turns ≡ mostTurns)) ×
     (length input ≡ length input₀) ×
     (length output ≡ length output₀) ×
@@ -30,23 +30,24 @@ Inv-loop input₀ output₀ category-records₀ day-types₀ settings₀ meters�
     (length settings ≡ length settings₀) ×
     (length meters ≡ length meters₀) ×
     (length readings ≡ length readings₀) ×
-    (length cells ≡ length cells₀)
+    (length cells ≡ length cells₀) ×
+    (length days ≡ length days₀)
 
 abbrev μ-loop : tie.MeasureT-loop
-μ-loop input₀ output₀ category-records₀ day-types₀ settings₀ meters₀ readings₀ cells₀ capacity session₀ going₀ input output category-records day-types settings meters readings cells session going =
+μ-loop input₀ output₀ category-records₀ day-types₀ settings₀ meters₀ readings₀ cells₀ days₀ capacity session₀ going₀ input output category-records day-types settings meters readings cells days session going =
     session .turns
 
-abbrev start : tie.After-slice-known8 Inv-loop μ-loop → tie.Start Inv-loop μ-loop
-start c = c .before .before .before .before .before .before .before .before
+abbrev start : tie.After-slice-known9 Inv-loop μ-loop → tie.Start Inv-loop μ-loop
+start c = c .before .before .before .before .before .before .before .before .before
 
-abbrev tested : tie.After-turn-arg8 Inv-loop μ-loop → tie.Then2 Inv-loop μ-loop
-tested c = c .before .before .before .before .before .before .before .before
+abbrev tested : tie.After-turn-arg9 Inv-loop μ-loop → tie.Then2 Inv-loop μ-loop
+tested c = c .before .before .before .before .before .before .before .before .before
 
 abbrev at-loop : tie.Then2 Inv-loop μ-loop → tie.At-loop Inv-loop μ-loop
 at-loop c = c .before .before .before
 
 abbrev after-turn : tie.After-is-going Inv-loop μ-loop → tie.After-turn Inv-loop μ-loop
-after-turn c = c .before .before .before .before .before .before .before .before .before .before .before .before .before .before .before .before .before
+after-turn c = c .before .before .before .before .before .before .before .before .before .before .before .before .before .before .before .before .before .before .before
 
 loop-holds : tie.Need-loop-holds Inv-loop μ-loop
 loop-holds c = (
@@ -55,6 +56,7 @@ loop-holds c = (
   start c .pre,
   refl,
   ([], refl, refl),
+  refl,
   refl,
   refl,
   refl,
@@ -101,6 +103,7 @@ loop-again c =
       omega (arith, kept, inv .10),
       omega (arith, kept, inv .11),
       omega (arith, kept, inv .12),
+      omega (arith, kept, inv .13),
     )
 
 same-length : tie.Need-same-length Inv-loop μ-loop
@@ -127,34 +130,40 @@ same-length-7 c = c .before .before .before .loop .inv .11
 same-length-8 : tie.Need-same-length-8 Inv-loop μ-loop
 same-length-8 c = c .before .before .before .loop .inv .12
 
+same-length-9 : tie.Need-same-length-9 Inv-loop μ-loop
+same-length-9 c = c .before .before .before .loop .inv .13
+
 returns : tie.Need-returns Inv-loop μ-loop
 returns c =
     let inv = c .before .before .before .loop .inv in
     (inv .1 .waiting, record { turns = inv .4 .0; taken = inv .4 .1; over = inl (sym (inv .3) ∙ c .if2 .left) })
 
-same-length-9 : tie.Need-same-length-9 Inv-loop μ-loop
-same-length-9 c = c .before .before .loop .inv .5
-
 same-length-10 : tie.Need-same-length-10 Inv-loop μ-loop
-same-length-10 c = c .before .before .loop .inv .6
+same-length-10 c = c .before .before .loop .inv .5
 
 same-length-11 : tie.Need-same-length-11 Inv-loop μ-loop
-same-length-11 c = c .before .before .loop .inv .7
+same-length-11 c = c .before .before .loop .inv .6
 
 same-length-12 : tie.Need-same-length-12 Inv-loop μ-loop
-same-length-12 c = c .before .before .loop .inv .8
+same-length-12 c = c .before .before .loop .inv .7
 
 same-length-13 : tie.Need-same-length-13 Inv-loop μ-loop
-same-length-13 c = c .before .before .loop .inv .9
+same-length-13 c = c .before .before .loop .inv .8
 
 same-length-14 : tie.Need-same-length-14 Inv-loop μ-loop
-same-length-14 c = c .before .before .loop .inv .10
+same-length-14 c = c .before .before .loop .inv .9
 
 same-length-15 : tie.Need-same-length-15 Inv-loop μ-loop
-same-length-15 c = c .before .before .loop .inv .11
+same-length-15 c = c .before .before .loop .inv .10
 
 same-length-16 : tie.Need-same-length-16 Inv-loop μ-loop
-same-length-16 c = c .before .before .loop .inv .12
+same-length-16 c = c .before .before .loop .inv .11
+
+same-length-17 : tie.Need-same-length-17 Inv-loop μ-loop
+same-length-17 c = c .before .before .loop .inv .12
+
+same-length-18 : tie.Need-same-length-18 Inv-loop μ-loop
+same-length-18 c = c .before .before .loop .inv .13
 
 returns-2 : tie.Need-returns-2 Inv-loop μ-loop
 returns-2 c =
@@ -180,8 +189,8 @@ take-turns-spec =
     same-length-6
     same-length-7
     same-length-8
-    returns
     same-length-9
+    returns
     same-length-10
     same-length-11
     same-length-12
@@ -189,4 +198,6 @@ take-turns-spec =
     same-length-14
     same-length-15
     same-length-16
+    same-length-17
+    same-length-18
     returns-2)

@@ -9,15 +9,15 @@ use Rattle.console.proofs.Turning.{same-state, same-held, pauses, room-
 use Rattle.console.proofs.dialogue.turn.Statement.{statement}
 use Rattle.console.proofs.dialogue.turn.Tie as tie
 
-abbrev start : tie.After-obey-all-arg8 → tie.Start
-start c = c .before .before .before .before .before .before .before .before .before .before .before .before .before .before .before .before .before
+abbrev start : tie.After-obey-all-arg9 → tie.Start
+start c = c .before .before .before .before .before .before .before .before .before .before .before .before .before .before .before .before .before .before .before
 
 -- what the input block is known to hold
-abbrev known : tie.After-obey-all-arg8 → tie.After-slice-known
-known c = c .before .before .before .before .before .before .before .before .before .before .before .before .before .before .before .before
+abbrev known : tie.After-obey-all-arg9 → tie.After-slice-known
+known c = c .before .before .before .before .before .before .before .before .before .before .before .before .before .before .before .before .before .before
 
-abbrev told : tie.After-slice-known15 → tie.After-obey-all
-told c = c .before .before .before .before .before .before .before .before .before .before .before .before .before .before
+abbrev told : tie.After-slice-known17 → tie.After-obey-all
+told c = c .before .before .before .before .before .before .before .before .before .before .before .before .before .before .before .before
 
 -- what stopped the commands, where it was not `bad`
 pause : (c : tie.At-match-keys2) → let t = told (c .before) in (t .obey-all .result .stage ≡ Full) ⊎ (t .obey-all .result .stage ≡ Short)
@@ -71,15 +71,15 @@ same-length-7 c = search needs
 same-length-8 : tie.Need-same-length-8
 same-length-8 c = search needs
 
+same-length-9 : tie.Need-same-length-9
+same-length-9 c = search needs
+
 returns : tie.Need-returns
 returns c =
     let t = told (c .before .before) in
     let s = start (t .before) in
     let put = t .obey-all .ensures in
     ((put .1 .0 .1, omega (arith, put .1 .0 .0, s .pre .0 .2)), (put .0, turned-bad _ _ _ (s .pre .0 .1) _ (put .1 .1 .1) (c .enum-told .given .1)))
-
-same-length-9 : tie.Need-same-length-9
-same-length-9 c = search needs
 
 same-length-10 : tie.Need-same-length-10
 same-length-10 c = search needs
@@ -102,6 +102,12 @@ same-length-15 c = search needs
 same-length-16 : tie.Need-same-length-16
 same-length-16 c = search needs
 
+same-length-17 : tie.Need-same-length-17
+same-length-17 c = search needs
+
+same-length-18 : tie.Need-same-length-18
+same-length-18 c = search needs
+
 returns-2 : tie.Need-returns-2
 returns-2 c =
     let x = c .before .before .before .before in
@@ -115,7 +121,7 @@ returns-2 c =
       (moved .0 .0, omega (arith, same .2, put .1 .0 .0, s .pre .0 .2)),
       (
         same-held (t .obey-all .result) (x .exchange .result) same _ _ _ (omega (arith, moved .0 .1, kept)) (put .0),
-        turned-on _ _ _ (s .pre .0 .1) _ _ _ _ _ (s .pre .1 .1) (put .1 .1 .1) (pause m) (moved .1) (same-state (t .obey-all .result) (x .exchange .result) same _ _ _ _ _ _),
+        turned-on _ _ _ (s .pre .0 .1) _ _ _ _ _ (s .pre .1 .1) (put .1 .1 .1) (pause m) (moved .1) (same-state (t .obey-all .result) (x .exchange .result) same _ _ _ _ _ _ _),
       ),
     )
 
@@ -135,8 +141,8 @@ turn-spec =
     same-length-6
     same-length-7
     same-length-8
-    returns
     same-length-9
+    returns
     same-length-10
     same-length-11
     same-length-12
@@ -144,4 +150,6 @@ turn-spec =
     same-length-14
     same-length-15
     same-length-16
+    same-length-17
+    same-length-18
     returns-2)

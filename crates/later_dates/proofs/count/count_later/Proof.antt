@@ -1,11 +1,12 @@
 -- `later_dates::count::count_later` meets its contract: what is left of the walk gives what the whole gives.
 use Prim.Native.Nat.{_+_, _-_, _<_}
 use mathlib.Core.Path.{_≡_, refl, ap, _∙_}
+use mathlib.Core.List.{[]}
 use native.Mathlib.Omega.{arith}
 use lib.ListN.{length}
 use Rattle.ledger.specs.Ready.{ready, header-there}
 use Rattle.ledger.specs.Store.{datesOf}
-use Rattle.ledger.specs.Calls.{leaveRow, Ran}
+use Rattle.ledger.specs.Calls.{countOnly, asPublished, Ran}
 use Rattle.later_dates.proofs.Laws.{Walked, walk-start, walk-end, walk-stop, walk-next, walk-room}
 use Rattle.later_dates.proofs.count.count_later.Statement.{statement}
 use Rattle.later_dates.proofs.count.count_later.Tie as tie
@@ -13,7 +14,7 @@ use Rattle.later_dates.proofs.count.count_later.Tie as tie
 abbrev Inv-loop : tie.InvT-loop
 Inv-loop settings cells day first moved inherited₀ dates total₀ d₀ inherited total d =
     (dates ≡ datesOf settings) × (length inherited ≡ length inherited₀)
-    × Walked leaveRow settings day first moved inherited₀ cells inherited cells total d
+    × Walked countOnly settings day first moved inherited₀ (asPublished cells []) inherited (asPublished cells []) total d
 
 abbrev μ-loop : tie.MeasureT-loop
 μ-loop settings cells day first moved inherited₀ dates total₀ d₀ inherited total d = dates - d

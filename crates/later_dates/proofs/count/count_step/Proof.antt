@@ -1,13 +1,14 @@
 -- `later_dates::count::count_step` meets its contract: a date that is no predecessor is passed over, the part lent of another is its row, and is counted.
 use Prim.Native.Nat.{ℕ, _+_, _-_, _*_, _≤_}
 use mathlib.Core.Path.{_≡_, sym, ap, _∙_}
+use mathlib.Core.List.{[]}
 use native.Mathlib.Omega.{arith}
 use borrow.Author.Needs.{needs}
 use borrow.Author.Tests.{not-true, not-false}
 use lib.ListN.{length}
 use Rattle.ledger.specs.Ready.{ready, row-bounds}
 use Rattle.ledger.specs.Store.{rowLength}
-use Rattle.ledger.specs.Calls.{leaveRow}
+use Rattle.ledger.specs.Calls.{countOnly, asPublished}
 use Rattle.store.proofs.RowLaws.{row-fits}
 use Rattle.later_dates.proofs.Laws.{part-is, step-skip, stepped-as, step-counted}
 use Rattle.later_dates.proofs.count.count_step.Statement.{statement}
@@ -47,7 +48,7 @@ returns c =
     let o = c .before .before in
     let s = start o in
     stepped-as
-    (step-skip leaveRow (s .args .settings .now) (s .args .day) (s .args .date) (s .args .inherited .now) (s .args .cells .now) (s .pre .2)
+    (step-skip countOnly (s .args .settings .now) (s .args .day) (s .args .date) (s .args .inherited .now) (asPublished (s .args .cells .now) []) (s .pre .2)
     (sym (o .is-predecessor .ensures) ∙ not-true _ (c .before .if1 .taken)))
     (c .passed-over .ensures .0) (c .passed-over .ensures .1)
 

@@ -41,15 +41,20 @@ readings-length-requires c κs = let p = periods c in let v = valid (start p) in
 cells-length-requires : tie.Need-cells-length-requires
 cells-length-requires c κs = let p = periods (c .before) in let v = valid (start p) in (v .categories-are .1, v .dates-are .1, few p)
 
+days-length-requires : tie.Need-days-length-requires
+days-length-requires c κs = let v = valid (start (periods (c .before .before))) in (v .categories-are .1, v .dates-are .1)
+
 returns : tie.Need-returns
 returns c =
-    let r = c .before in
+    let k = c .before in
+    let r = k .before in
     let m = r .before in
     rw (
       m .before .settings-length .ensures,
       m .meters-length .ensures,
       r .readings-length .ensures,
-      c .cells-length .ensures,
+      k .cells-length .ensures,
+      c .days-length .ensures,
       periods m .periods-per-day .ensures,
     )
 
@@ -62,4 +67,5 @@ least-lengths-spec =
     meters-length-requires
     readings-length-requires
     cells-length-requires
+    days-length-requires
     returns)

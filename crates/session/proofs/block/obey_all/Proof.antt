@@ -13,34 +13,35 @@ use Rattle.session.proofs.block.obey_all.Statement.{statement}
 use Rattle.session.proofs.block.obey_all.Tie as tie
 
 abbrev Inv-loop : tie.InvT-loop
-Inv-loop input output₀ category-records₀ day-types₀ settings₀ meters₀ readings₀ cells₀ capacity next₀ going₀ output category-records day-types settings meters readings cells next going =
+Inv-loop input output₀ category-records₀ day-types₀ settings₀ meters₀ readings₀ cells₀ days₀ capacity next₀ going₀ output category-records day-types settings meters readings cells days next going =
     Held next (length output₀) (length category-records₀) (length day-types₀) ×
     BlockBounds next (length input) ×
     SameInput next₀ next ×
     (going ≡ isGoing (next .stage)) ×
     Obeyed (setupOf category-records₀ day-types₀ capacity)
-    (stateOf next₀ category-records₀ day-types₀ settings₀ meters₀ readings₀ cells₀) (untaken next₀ input) (take (next₀ .waiting) output₀)
-    (stateOf next category-records day-types settings meters readings cells) (untaken next input) (take (next .waiting) output) (length output₀) (next .stage) ×
+    (stateOf next₀ category-records₀ day-types₀ settings₀ meters₀ readings₀ cells₀ days₀) (untaken next₀ input) (take (next₀ .waiting) output₀)
+    (stateOf next category-records day-types settings meters readings cells days) (untaken next input) (take (next .waiting) output) (length output₀) (next .stage) ×
     (length output ≡ length output₀) ×
     (length category-records ≡ length category-records₀) ×
     (length day-types ≡ length day-types₀) ×
     (length settings ≡ length settings₀) ×
     (length meters ≡ length meters₀) ×
     (length readings ≡ length readings₀) ×
-    (length cells ≡ length cells₀)
+    (length cells ≡ length cells₀) ×
+    (length days ≡ length days₀)
 
 abbrev μ-loop : tie.MeasureT-loop
-μ-loop input output₀ category-records₀ day-types₀ settings₀ meters₀ readings₀ cells₀ capacity next₀ going₀ output category-records day-types settings meters readings cells next going =
+μ-loop input output₀ category-records₀ day-types₀ settings₀ meters₀ readings₀ cells₀ days₀ capacity next₀ going₀ output category-records day-types settings meters readings cells days next going =
     next .end - next .at + cond going 1 0
 
-abbrev start : tie.After-slice-known7 Inv-loop μ-loop → tie.Start Inv-loop μ-loop
-start c = c .before .before .before .before .before .before .before .before
+abbrev start : tie.After-slice-known8 Inv-loop μ-loop → tie.Start Inv-loop μ-loop
+start c = c .before .before .before .before .before .before .before .before .before
 
-abbrev head : tie.After-obey-next-arg7 Inv-loop μ-loop → tie.In-loop Inv-loop μ-loop
-head c = c .before .before .before .before .before .before .before
+abbrev head : tie.After-obey-next-arg8 Inv-loop μ-loop → tie.In-loop Inv-loop μ-loop
+head c = c .before .before .before .before .before .before .before .before
 
 abbrev after-obey-next : tie.After-is-going Inv-loop μ-loop → tie.After-obey-next Inv-loop μ-loop
-after-obey-next c = c .before .before .before .before .before .before .before .before .before .before .before .before .before .before .before
+after-obey-next c = c .before .before .before .before .before .before .before .before .before .before .before .before .before .before .before .before .before
 
 -- the stage that the loop goes on at
 going : (c : tie.In-loop Inv-loop μ-loop) → isGoing (c .before .loop .next .stage) ≡ true
@@ -57,6 +58,7 @@ loop-holds c =
       (omega arith, refl, refl),
       rw stage refl,
       obeyed-none _ _ _ _ _ _ (rw stage refl) (rw stage tt),
+      refl,
       refl,
       refl,
       refl,
@@ -108,6 +110,7 @@ loop-again c =
       omega (arith, kept, inv .9),
       omega (arith, kept, inv .10),
       omega (arith, kept, inv .11),
+      omega (arith, kept, inv .12),
     )
 
 same-length : tie.Need-same-length Inv-loop μ-loop
@@ -130,6 +133,9 @@ same-length-6 c = c .before .loop .inv .10
 
 same-length-7 : tie.Need-same-length-7 Inv-loop μ-loop
 same-length-7 c = c .before .loop .inv .11
+
+same-length-8 : tie.Need-same-length-8 Inv-loop μ-loop
+same-length-8 c = c .before .loop .inv .12
 
 returns : tie.Need-returns Inv-loop μ-loop
 returns c =
@@ -154,4 +160,5 @@ obey-all-spec =
     same-length-5
     same-length-6
     same-length-7
+    same-length-8
     returns)

@@ -24,16 +24,16 @@ use Rattle.session.proofs.block.obey_next.Tie as tie
 
 -- the entry, from the test of room and from the extent
 abbrev start : tie.After-struct-known → tie.Start
-start c = c .before .before .before .before .before .before .before .before .before
+start c = c .before .before .before .before .before .before .before .before .before .before
 
 abbrev begun : tie.After-command-extent → tie.Start
 begun c = start (c .before .before .before .before .before)
 
-abbrev after-obey : tie.After-slice-known14 → tie.After-obey
-after-obey c = c .before .before .before .before .before .before .before .before .before .before .before .before .before .before
+abbrev after-obey : tie.After-slice-known16 → tie.After-obey
+after-obey c = c .before .before .before .before .before .before .before .before .before .before .before .before .before .before .before .before
 
-abbrev after-found : tie.After-obey-arg8 → tie.After-found
-after-found c = c .before .before .before .before .before .before .before .before .before
+abbrev after-found : tie.After-obey-arg9 → tie.After-found
+after-found c = c .before .before .before .before .before .before .before .before .before .before
 
 abbrev extent-of : tie.After-found → tie.After-command-extent
 extent-of c = c .before .before
@@ -44,7 +44,7 @@ setup s = setupOf (now (s .args .category-records)) (now (s .args .day-types)) (
 abbrev state : tie.Start → State
 state s =
     let a = s .args in
-    stateOf (a .session) (now (a .category-records)) (now (a .day-types)) (now (a .settings)) (now (a .meters)) (now (a .readings)) (now (a .cells))
+    stateOf (a .session) (now (a .category-records)) (now (a .day-types)) (now (a .settings)) (now (a .meters)) (now (a .readings)) (now (a .cells)) (now (a .days))
 
 abbrev window : tie.Start → List ℕ
 window s = untaken (s .args .session) (now (s .args .input))
@@ -54,7 +54,7 @@ extent-is : (c : tie.After-command-extent) (e : Extent) → c .command-extent .r
 extent-is c e found =
     let s = begun c in
     let a = s .args in
-    same-extent (a .session) (length (now (a .output))) (now (a .category-records)) (now (a .day-types)) (now (a .settings)) (now (a .meters)) (now (a .readings)) (now (a .cells)) (window s) (a .capacity) (s .pre .1) ∙ sym (c .command-extent .ensures) ∙ found
+    same-extent (a .session) (length (now (a .output))) (now (a .category-records)) (now (a .day-types)) (now (a .settings)) (now (a .meters)) (now (a .readings)) (now (a .cells)) (now (a .days)) (window s) (a .capacity) (s .pre .1) ∙ sym (c .command-extent .ensures) ∙ found
 
 abbrev count : tie.After-found → ℕ
 count c = c .found .given .0 .0
@@ -178,6 +178,9 @@ same-length-6 c = search needs
 same-length-7 : tie.Need-same-length-7
 same-length-7 c = search needs
 
+same-length-8 : tie.Need-same-length-8
+same-length-8 c = search needs
+
 returns-2 : tie.Need-returns-2
 returns-2 c =
     let done = after-obey c in
@@ -218,8 +221,8 @@ returns-3 c =
       ),
     )
 
-same-length-8 : tie.Need-same-length-8
-same-length-8 c = search needs
+same-length-9 : tie.Need-same-length-9
+same-length-9 c = search needs
 
 returns-4 : tie.Need-returns-4
 returns-4 c =
@@ -268,7 +271,8 @@ obey-next-spec =
     same-length-5
     same-length-6
     same-length-7
+    same-length-8
     returns-2
     returns-3
-    same-length-8
+    same-length-9
     returns-4)

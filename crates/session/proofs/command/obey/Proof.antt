@@ -15,38 +15,38 @@ use Rattle.session.proofs.command.obey.Tie as tie
 abbrev begun : tie.Start → State
 begun s =
     let a = s .args in
-    stateOf (a .session) (now (a .category-records)) (now (a .day-types)) (now (a .settings)) (now (a .meters)) (now (a .readings)) (now (a .cells))
+    stateOf (a .session) (now (a .category-records)) (now (a .day-types)) (now (a .settings)) (now (a .meters)) (now (a .readings)) (now (a .cells)) (now (a .days))
 
 -- the entry, from an 11, from a 12, and from any other command
 abbrev collecting : tie.Then1 → tie.Start
-collecting c = c .before .before .before .before .before .before .before .before .before .before
+collecting c = c .before .before .before .before .before .before .before .before .before .before .before
 
 abbrev collecting-day-type : tie.Then2 → tie.Start
-collecting-day-type c = c .before .before .before .before .before .before .before .before .before .before .before
+collecting-day-type c = c .before .before .before .before .before .before .before .before .before .before .before .before
 
 abbrev start : tie.Else2 → tie.Start
-start c = c .before .before .before .before .before .before .before .before .before .before .before
+start c = c .before .before .before .before .before .before .before .before .before .before .before .before
 
 abbrev start-of-after-shared-slice-known2 : tie.After-shared-slice-known2 → tie.Start
-start-of-after-shared-slice-known2 c = c .before .before .before .before .before .before .before .before .before
+start-of-after-shared-slice-known2 c = c .before .before .before .before .before .before .before .before .before .before
 
-abbrev then1 : tie.After-slice-known8 → tie.Then1
+abbrev then1 : tie.After-slice-known9 → tie.Then1
 then1 c = c .before .before .before .before .before
 
-abbrev then2 : tie.After-slice-known9 → tie.Then2
+abbrev then2 : tie.After-slice-known10 → tie.Then2
 then2 c = c .before .before .before .before .before
 
-abbrev else3 : tie.After-ask-arg5 → tie.Else3
-else3 c = c .before .before .before .before .before
+abbrev else3 : tie.After-ask-arg6 → tie.Else3
+else3 c = c .before .before .before .before .before .before
 
-abbrev then3 : tie.After-open-arg7 → tie.Then3
-then3 c = c .before .before .before .before .before .before .before
+abbrev then3 : tie.After-open-arg8 → tie.Then3
+then3 c = c .before .before .before .before .before .before .before .before
 
-abbrev after-ask : tie.After-slice-known18 → tie.After-ask
-after-ask c = c .before .before .before .before .before .before .before .before
+abbrev after-ask : tie.After-slice-known21 → tie.After-ask
+after-ask c = c .before .before .before .before .before .before .before .before .before .before
 
-abbrev after-open : tie.After-slice-known14 → tie.After-open
-after-open c = c .before .before .before .before .before .before .before .before .before .before
+abbrev after-open : tie.After-slice-known16 → tie.After-open
+after-open c = c .before .before .before .before .before .before .before .before .before .before .before .before
 
 shared-slice-read-code : tie.Need-shared-slice-read-code
 shared-slice-read-code c = some-there _ (start-of-after-shared-slice-known2 c .pre .0 .0)
@@ -158,6 +158,9 @@ same-length-8 c = search needs
 same-length-9 : tie.Need-same-length-9
 same-length-9 c = search needs
 
+same-length-10 : tie.Need-same-length-10
+same-length-10 c = search needs
+
 returns-3 : tie.Need-returns-3
 returns-3 c =
     let t = then3 (after-open c .before) in
@@ -180,9 +183,6 @@ ask-requires c κs =
     let w = e .before in
     (start w .pre .0, (e .if3 .left, w .before .if1 .left, w .if2 .left))
 
-same-length-10 : tie.Need-same-length-10
-same-length-10 c = search needs
-
 same-length-11 : tie.Need-same-length-11
 same-length-11 c = search needs
 
@@ -194,6 +194,12 @@ same-length-13 c = search needs
 
 same-length-14 : tie.Need-same-length-14
 same-length-14 c = search needs
+
+same-length-15 : tie.Need-same-length-15
+same-length-15 c = search needs
+
+same-length-16 : tie.Need-same-length-16
+same-length-16 c = search needs
 
 returns-4 : tie.Need-returns-4
 returns-4 c =
@@ -243,11 +249,13 @@ obey-spec =
     same-length-7
     same-length-8
     same-length-9
+    same-length-10
     returns-3
     ask-requires
-    same-length-10
     same-length-11
     same-length-12
     same-length-13
     same-length-14
+    same-length-15
+    same-length-16
     returns-4)

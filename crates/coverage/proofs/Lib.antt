@@ -1,0 +1,2 @@
+-- Laws that the proofs of the coverage read share.
+pub mod Laws

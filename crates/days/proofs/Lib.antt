@@ -1,0 +1,2 @@
+-- Laws that the proofs of days share.
+pub mod Laws

@@ -1,0 +1,22 @@
+-- `sizes::days_length` meets its contract: the product is far below 2 ^ 64.
+use Prim.Native.Nat.{_*_}
+use mathlib.Core.Path.{refl}
+use native.Mathlib.Omega.{arith}
+use native.Mathlib.Nat.{mul-le-mul}
+use Rattle.ledger.specs.Sizes.{daysLength}
+use borrow.Author.Needs.{needs}
+use Rattle.settings.proofs.sizes.days_length.Statement.{statement}
+use Rattle.settings.proofs.sizes.days_length.Tie as tie
+
+mul-result : tie.Need-mul-result
+mul-result c = search needs
+
+mul-result-2 : tie.Need-mul-result-2
+mul-result-2 c = let a = c .args in omega (arith, mul-le-mul {n₁ = a .categories} {m₁ = 2 * a .dates} {n₂ = 64} {m₂ = 1600} (c .pre .0) (omega arith))
+
+returns : tie.Need-returns
+unfolding daysLength
+returns c = refl
+
+pub days-length-spec : {M : Type 1} → statement M
+days-length-spec = tie.close (tie.spec mul-result mul-result-2 returns)
