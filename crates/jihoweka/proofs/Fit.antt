@@ -15,7 +15,7 @@ use Rattle.metering.specs.Sum.{sumBelow}
 use Rattle.metering.specs.Average.{average, annual}
 use Rattle.metering.specs.Range.{dayTypeValid}
 use Rattle.metering.specs.Calendar.{liesWithin, windowStart, windowEnd}
-use Rattle.ledger.specs.Method.{Category, Flag, A, D, E, N, letterOf, Cell, overRunDates, totOn, offOn, peakOn, freshAmong, blanksAmong, totalsOn}
+use Rattle.ledger.specs.Method.{Category, Flag, A, D, E, N, letterOf, Cell, overRunDates, totOn, offOn, peakOn, totalsOn}
 use Rattle.ledger.specs.Opening.{Opening, categories, dates}
 use Rattle.ledger.specs.Table.{tabulate}
 use Rattle.ledger.specs.Checks.{Registration, RegistrationCall, ReceptionCall, Verdict, firstFailed, orElse, sizesValid, openingCheck, bodyCheck, inForceCheck, receptionCheck, runCheck, readCheck, bandCheck, NetCall}
@@ -28,7 +28,7 @@ use Rattle.ledger.specs.Ready.{Ready, ready, periods-bound, row-bounds}
 use Rattle.ledger.proofs.Open.{sizes-valid}
 use Rattle.ledger.proofs.Choices.{check-passed}
 use Rattle.ledger.proofs.Chosen.{chosen-few}
-use Rattle.ledger.proofs.Days.{fresh-one, blank-one, run-most}
+use Rattle.ledger.proofs.Days.{fresh-most, blanks-most, run-most}
 use Rattle.ledger.proofs.Lists.{sumBelow-most}
 use Rattle.entries.proofs.RowLaws.{differing-le}
 use Rattle.store.specs.declared.outcome.Outcome.{Outcome}
@@ -163,11 +163,8 @@ module _ (duration periods w : ℕ) (isRun : ℕ → Bool) (cell : ℕ → ℕ �
   unfolding peakOn
   peak-low x = let h = tot-low x in cases (eqb w 0) (λ q. rw q zero-le) (λ q. rw q (omega arith))
 
-  flags-low : (f : ℕ → ℕ) → ((k : ℕ) → f k ≤ 1) → Fits (sumBelow periods f)
-  flags-low f h = omega (arith, sumBelow-most periods 1 f (λ k l. h k))
-
   totals-low : (d : ℕ) → FieldsFit (totalsAre (totalsOn duration periods w isRun cell d))
-  unfolding totalsOn freshAmong blanksAmong
+  unfolding totalsOn
   totals-low d =
       let days = run-most isRun 365 1 (λ _. 1) d (λ x. omega arith) in
       let year : overRunDates isRun 365 (totOn duration periods w isRun cell) d ≤ 150495654016800 = omega (arith, run-most isRun 365 412316860320 (totOn duration periods w isRun cell) d tot-low) in
@@ -190,8 +187,8 @@ module _ (duration periods w : ℕ) (isRun : ℕ → Bool) (cell : ℕ → ℕ �
                       (
                         omega arith,
                         (
-                          flags-low _ (λ k. fresh-one (cell d (suc k) .flag)),
-                          (flags-low _ (λ k. blank-one (cell d (suc k) .flag)), tt),
+                          omega (arith, fresh-most periods (λ k. cell d (suc k))),
+                          (omega (arith, blanks-most periods (λ k. cell d (suc k))), tt),
                         ),
                       ),
                     ),

@@ -311,13 +311,13 @@ module _ (T C : ℕ) (e e′ : ℕ → ℕ → ℕ) (days : List ℕ) (are : Day
 
 -- ---- a row's entry: each count has room in it, and it is not 0
 
-pub fresh-one : (f : Flag) → isFresh f ≤ 1
+fresh-one : (f : Flag) → isFresh f ≤ 1
 fresh-one A = omega arith
 fresh-one D = omega arith
 fresh-one E = omega arith
 fresh-one N = omega arith
 
-pub blank-one : (f : Flag) → isBlank f ≤ 1
+blank-one : (f : Flag) → isBlank f ≤ 1
 blank-one A = omega arith
 blank-one D = omega arith
 blank-one E = omega arith

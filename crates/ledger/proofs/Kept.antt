@@ -153,7 +153,7 @@ module _ (s : List ℕ) (few : periodsOf s ≤ 96) (places : 0 < rowLength s) (L
   publish-keeps : (d : ℕ) (row : List ℕ) (p : Published) → d < datesOf s → length row ≡ rowLength s → Flagged (getD row 0 0) → KeptIn s L p → KeptIn s L (publish s d row p)
   unfolding rowLength
   publish-keeps d row p h long flagged k =
-      let here : d * rowLength s + rowLength s ≤ length (p .cells) = (let r = k .room in omega (arith, r, mul-le-mul-right (rowLength s) h)) in
+      let here = fits (datesOf s) (categoriesOf s) (periodsOf s) few d h row (p .cells) (p .days) long places flagged (k .room) in
       record {
         are = row-keeps (datesOf s) (categoriesOf s) (periodsOf s) few d h row (p .cells) (p .days) long (unfold rowLength in places) flagged (k .room) (k .are) (rw (k .as-long) enough);
         as-long = kept-length (datesOf s) (periodsOf s) d row (categoriesOf s) (p .days) ∙ k .as-long;
