@@ -23,8 +23,8 @@ int main(void) {
     show("receive", jihoweka_receive(STORE, 7, mpan, 0, 30, 1, LEND(body), LEND(fields)), 0);
     for (uint64_t date = 0; date < 2; date++)
         show("run", jihoweka_run(STORE, LEND(cells), LEND(days), date, LEND(fields)), 1);
-    show("totals", jihoweka_read_totals(LEND(settings), LEND(cells), 1, 0, LEND(fields)), 11);
+    show("totals", jihoweka_read_totals(LEND(settings), LEND(days), 1, 0, LEND(fields)), 11);
     show("cell", jihoweka_read_cell(LEND(settings), LEND(cells), 0, 1, 3, LEND(fields)), 4);
-    show("band", jihoweka_search_band(LEND(settings), LEND(cells), 0, 1, 750, 750, LEND(dates),
+    show("band", jihoweka_search_band(LEND(settings), LEND(days), 0, 1, 750, 750, LEND(dates),
                                       LEND(fields)), 2);
 }

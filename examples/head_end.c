@@ -196,7 +196,7 @@ static void run_date(struct store *s, uint64_t date) {
 static void print_totals(const struct store *s, uint64_t date, uint64_t category) {
     static const char *const NAMES[] = {"TOT ", " OFF ", " PEAK ", " TOT7 ", " OFF7 ", " PEAK7 "};
     int64_t fields[JIHOWEKA_FIELDS];
-    uint64_t number = jihoweka_read_totals(PART(settings), PART(cells), date, category, RESULTS);
+    uint64_t number = jihoweka_read_totals(PART(settings), PART(days), date, category, RESULTS);
     printf("totals of date %" PRIu64 ", category %" PRIu64 ": ", date, category);
     if (!accepted(number, fields)) return;
     for (int i = JIHOWEKA_TOT; i <= JIHOWEKA_PEAK7; i++) print_kwh(NAMES[i], fields[i]);
@@ -224,8 +224,9 @@ static void print_cell(const struct store *s, uint64_t date, uint64_t category, 
 static void print_net(const struct store *s, uint64_t date, uint64_t category, int all_groups) {
     int64_t fields[JIHOWEKA_FIELDS], nets[PERIODS];
     uint8_t marks[PERIODS];
-    uint64_t number = jihoweka_read_net(PART(settings), PART(cells), date, category,
-                                        all_groups != 0, nets, PERIODS, marks, PERIODS, RESULTS);
+    uint64_t number =
+        jihoweka_read_net(PART(settings), PART(cells), PART(days), date, category, all_groups != 0,
+                          nets, PERIODS, marks, PERIODS, RESULTS);
     printf("net of date %" PRIu64 ", category %" PRIu64, date, category);
     printf(", %s: ", all_groups ? "all groups" : "own group");
     if (!accepted(number, fields)) return;
@@ -243,7 +244,7 @@ static void print_band(const struct store *s, size_t room) {
     int64_t fields[JIHOWEKA_FIELDS];
     uint64_t dates[DATES];
     uint64_t number =
-        jihoweka_search_band(PART(settings), PART(cells), 0, 1, 63652, 69122, dates, room, RESULTS);
+        jihoweka_search_band(PART(settings), PART(days), 0, 1, 63652, 69122, dates, room, RESULTS);
     printf("band with room for %zu: ", room);
     if (!accepted(number, fields)) return;
     printf("%" PRId64 " of %" PRId64 ":", fields[JIHOWEKA_WRITTEN], fields[JIHOWEKA_FOUND]);

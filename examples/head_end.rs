@@ -46,7 +46,7 @@ mod c {
         ) -> u64;
         pub fn jihoweka_read_totals(
             settings: *const u8, settings_length: usize,
-            cells: *const u64, cells_length: usize,
+            days: *const u64, days_length: usize,
             date: u64, category: u64,
             fields: *mut i64, fields_length: usize,
         ) -> u64;
@@ -59,6 +59,7 @@ mod c {
         pub fn jihoweka_read_net(
             settings: *const u8, settings_length: usize,
             cells: *const u64, cells_length: usize,
+            days: *const u64, days_length: usize,
             date: u64, category: u64, all_groups: u64,
             numbers: *mut i64, numbers_length: usize,
             marks: *mut u8, marks_length: usize,
@@ -66,7 +67,7 @@ mod c {
         ) -> u64;
         pub fn jihoweka_search_band(
             settings: *const u8, settings_length: usize,
-            cells: *const u64, cells_length: usize,
+            days: *const u64, days_length: usize,
             category: u64, day_type: u64, least: u64, most: u64,
             dates: *mut u64, dates_length: usize,
             fields: *mut i64, fields_length: usize,
@@ -176,7 +177,7 @@ impl Store {
             meters: vec![0; 41 * meters],
             readings: vec![0; dates * meters * (1 + periods)],
             cells: vec![0; dates * categories * periods],
-            days: vec![0; 2 * categories * dates],
+            days: vec![0; 4 * categories * dates],
             periods,
         }
     }
@@ -253,7 +254,7 @@ impl Store {
         results(|fields, length| unsafe {
             c::jihoweka_read_totals(
                 self.settings.as_ptr(), self.settings.len(),
-                self.cells.as_ptr(), self.cells.len(),
+                self.days.as_ptr(), self.days.len(),
                 date, category,
                 fields, length,
             )
@@ -280,11 +281,12 @@ impl Store {
 
     fn net(&self, date: u64, category: u64, all_groups: bool) -> Result<Net, Refusal> {
         let (mut numbers, mut marks) = (vec![0; self.periods], vec![0; self.periods]);
-        // SAFETY: both parts are only read; both lists and fields are our own.
+        // SAFETY: the three parts are only read; both lists and fields are our own.
         results(|fields, length| unsafe {
             c::jihoweka_read_net(
                 self.settings.as_ptr(), self.settings.len(),
                 self.cells.as_ptr(), self.cells.len(),
+                self.days.as_ptr(), self.days.len(),
                 date, category, u64::from(all_groups),
                 numbers.as_mut_ptr(), numbers.len(),
                 marks.as_mut_ptr(), marks.len(),
@@ -302,7 +304,7 @@ impl Store {
         results(|fields, length| unsafe {
             c::jihoweka_search_band(
                 self.settings.as_ptr(), self.settings.len(),
-                self.cells.as_ptr(), self.cells.len(),
+                self.days.as_ptr(), self.days.len(),
                 category, day_type, least, most,
                 dates.as_mut_ptr(), dates.len(),
                 fields, length,

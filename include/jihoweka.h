@@ -9,13 +9,14 @@
      meters     uint64_t   registrations
      readings   uint64_t   the sets held
      cells      uint64_t   the shapes
-     days       uint64_t   the coverage of each date
+     days       uint64_t   the totals and the coverage of each date
 
    Their least lengths are the macros below. Parts may be longer: what stands past the least length
    is neither read nor written. jihoweka_open makes a new, empty store and overwrites what the parts
    held. A store that was saved and loaded byte for byte is used as it is, and not opened again;
    that holds for one version of the library and one byte order. Parts full of zeros are unopened.
-   Header and library go together: a later version may lay the parts out anew and add arguments.
+   Header and library go together: a later version may lay the parts out anew, and its calls may be
+   lent other parts.
 
    What a call returns
      JIHOWEKA_ACCEPTED, or the number of the first check that failed; each call lists its checks in
@@ -124,7 +125,7 @@ enum {
     ((size_t)(dates) * (size_t)(meters) * (1 + (size_t)(periods)))
 #define JIHOWEKA_CELLS_LENGTH(categories, dates, periods) \
     ((size_t)(dates) * (size_t)(categories) * (size_t)(periods))
-#define JIHOWEKA_DAYS_LENGTH(categories, dates) (2 * (size_t)(categories) * (size_t)(dates))
+#define JIHOWEKA_DAYS_LENGTH(categories, dates) (4 * (size_t)(categories) * (size_t)(dates))
 
 /* ---- calls
 
@@ -200,8 +201,8 @@ uint64_t jihoweka_receive(
 
 /* Makes a date's cells from the sets held; a cell with too few readings takes over that of the
    nearest earlier run date of the same day type. Later run dates of the day type follow, wherever
-   they have no shape of their own; the coverage of this and later dates follows. Writes cells and
-   days.
+   they have no shape of their own; totals and coverage of this and later dates follow. Writes cells
+   and days.
    Results: moved, how many cells of all dates differ from before; a date not run has cells N.
    Checks: 1, 9. */
 uint64_t jihoweka_run(
@@ -221,7 +222,7 @@ uint64_t jihoweka_run(
    flag A or D; BLANK, how many have N. Checks: 1, 9, 15, 14. */
 uint64_t jihoweka_read_totals(
     const uint8_t *settings, size_t settings_length,
-    const uint64_t *cells, size_t cells_length,
+    const uint64_t *days, size_t days_length,
     uint64_t date,
     uint64_t category,
     int64_t *fields, size_t fields_length);
@@ -244,11 +245,13 @@ uint64_t jihoweka_read_cell(
                  families
      numbers     the net of each period in Wh; P entries at least
      marks       1 where a cell summed has flag N, else 0; P entries at least
+   Numbers, marks and net TOT are of the cells, net TOT7 is of the days.
    Results: net TOT, the sum of the numbers; net TOT7, the same over the run dates among this and
    the 6 before. Checks: 1 (of both lists too), 9, 15, 26, 14. */
 uint64_t jihoweka_read_net(
     const uint8_t *settings, size_t settings_length,
     const uint64_t *cells, size_t cells_length,
+    const uint64_t *days, size_t days_length,
     uint64_t date,
     uint64_t category,
     uint64_t all_groups,
@@ -263,7 +266,7 @@ uint64_t jihoweka_read_net(
    Results: how many were written, how many there are. Checks: 1, 15. */
 uint64_t jihoweka_search_band(
     const uint8_t *settings, size_t settings_length,
-    const uint64_t *cells, size_t cells_length,
+    const uint64_t *days, size_t days_length,
     uint64_t category,
     uint64_t day_type,
     uint64_t least,

@@ -45,7 +45,8 @@ static int64_t fields[JIHOWEKA_FIELDS];
 #define LENT(part) store.part, store.part##_length
 #define METER_PARTS LENT(settings), LENT(meters), LENT(readings)
 #define ALL_PARTS METER_PARTS, LENT(cells), LENT(days)
-#define READ_PARTS LENT(settings), LENT(cells)
+#define CELL_PARTS LENT(settings), LENT(cells)
+#define DAY_PARTS LENT(settings), LENT(days)
 #define FIELDS fields, JIHOWEKA_FIELDS
 
 static uint8_t category_records[CATEGORIES][JIHOWEKA_CATEGORY_BYTES];
@@ -174,14 +175,14 @@ static int64_t run(uint64_t date) {
 
 static void read_totals(uint64_t date, uint64_t category) {
     must_accept("number of a totals read", jihoweka_read_totals(
-        READ_PARTS, date, category, FIELDS));
+        DAY_PARTS, date, category, FIELDS));
     must_be("days7 of a totals read", fields[JIHOWEKA_DAYS7], WEEK);
     must_be("days of a totals read", fields[JIHOWEKA_DAYS], YEAR);
 }
 
 static void read_cell(uint64_t date, uint64_t category, uint64_t period) {
     must_accept("number of a cell read", jihoweka_read_cell(
-        READ_PARTS, date, category, period, FIELDS));
+        CELL_PARTS, date, category, period, FIELDS));
     must_be("origin of a cell read", fields[JIHOWEKA_ORIGIN], (int64_t)date);
 }
 
@@ -189,7 +190,8 @@ static void read_net(uint64_t date, uint64_t category, uint64_t all_groups) {
     static int64_t numbers[PERIODS];
     static uint8_t marks[PERIODS];
     must_accept("number of a net read", jihoweka_read_net(
-        READ_PARTS, date, category, all_groups, numbers, PERIODS, marks, PERIODS, FIELDS));
+        CELL_PARTS, LENT(days), date, category, all_groups, numbers, PERIODS, marks, PERIODS,
+        FIELDS));
     must_be("last mark of a net read", marks[PERIODS - 1], 0);
 }
 
@@ -197,7 +199,7 @@ static void search_band(uint64_t category, uint64_t type, uint64_t least, uint64
                         int64_t due) {
     static uint64_t dates[DATES];
     must_accept("number of a band search", jihoweka_search_band(
-        READ_PARTS, category, type, least, most, dates, DATES, FIELDS));
+        DAY_PARTS, category, type, least, most, dates, DATES, FIELDS));
     must_be("dates written by a band search", fields[JIHOWEKA_WRITTEN], due);
     must_be("dates that a band search counts", fields[JIHOWEKA_FOUND], due);
 }
@@ -209,19 +211,19 @@ static uint64_t last_filled[CATEGORIES];            /* what the last period gets
 
 static void fill(uint64_t date, uint64_t category) {
     must_accept("number of a fill", jihoweka_fill(
-        READ_PARTS, date, category, advances[category], missing, PERIODS, filled, PERIODS, FIELDS));
+        CELL_PARTS, date, category, advances[category], missing, PERIODS, filled, PERIODS, FIELDS));
 }
 
 static void fill_opted_out(uint64_t date) {
     const uint8_t *record = category_records[LAST];
     must_accept("number of an opted-out meter's fill", jihoweka_fill_opted_out(
-        READ_PARTS, date, record[1], record[3], record[4], advances[LAST], missing, PERIODS,
+        CELL_PARTS, date, record[1], record[3], record[4], advances[LAST], missing, PERIODS,
         filled, PERIODS, FIELDS));
 }
 
 static void read_coverage(uint64_t date, uint64_t category, int64_t fresh, int64_t blank) {
     must_accept("number of a coverage read", jihoweka_read_coverage(
-        LENT(settings), LENT(days), date, category, FIELDS));
+        DAY_PARTS, date, category, FIELDS));
     must_be("FRESH365 of a coverage read", fields[JIHOWEKA_FRESH365], fresh);
     must_be("BLANK365 of a coverage read", fields[JIHOWEKA_BLANK365], blank);
 }
@@ -241,9 +243,10 @@ static uint64_t *column_at(size_t date, size_t category) {
     return store.cells + date * ROW + category * PERIODS;
 }
 
-/* A category has an entry for each date, and then one for each date's sums. */
-static uint64_t *day_at(size_t date, size_t category) {
-    return store.days + 2 * DATES * category + date;
+/* A category has four rows, each with an entry for a date. */
+enum { DAY, SUMS, TOT, OFF, DAY_ROWS };
+static uint64_t *day_at(size_t date, size_t category, size_t row) {
+    return store.days + (DAY_ROWS * category + row) * DATES + date;
 }
 
 static void copy_out(const void *place, size_t bytes) { copy_bytes(landing, place, bytes); }
@@ -262,15 +265,19 @@ static void copy_sets_out(size_t date) {
     for (size_t k = 0; k < METERS; k++) copy_out(set_at(date, k), SET_BYTES);
 }
 
-/* The day of each category. */
+/* Day, TOT and OFF of each category. */
 static void copy_days(size_t date) {
-    for (size_t c = 0; c < CATEGORIES; c++) copy_out_and_back(day_at(date, c), 8);
+    for (size_t c = 0; c < CATEGORIES; c++) {
+        copy_out_and_back(day_at(date, c, DAY), 8);
+        copy_out_and_back(day_at(date, c, TOT), 8);
+        copy_out_and_back(day_at(date, c, OFF), 8);
+    }
 }
 
 /* The sums that the counts of a date are in, for each category: up to a year's from it on. */
 static void copy_sums(size_t date) {
     size_t dates = DATES - date < YEAR ? DATES - date : YEAR;
-    for (size_t c = 0; c < CATEGORIES; c++) copy_out_and_back(day_at(date, c) + DATES, 8 * dates);
+    for (size_t c = 0; c < CATEGORIES; c++) copy_out_and_back(day_at(date, c, SUMS), 8 * dates);
 }
 
 /* A run that changes no count, and so no sums. */
@@ -280,10 +287,14 @@ static void copy_run(size_t date) {
     copy_days(date);
 }
 
-/* A category's cells of a date and of those before it. */
-static void copy_columns(size_t date, size_t dates, size_t category) {
-    for (size_t back = 0; back < dates; back++)
-        copy_out(column_at(date - back, category), COLUMN_BYTES);
+/* A category's cells of a date. */
+static void copy_column(size_t date, size_t category) {
+    copy_out(column_at(date, category), COLUMN_BYTES);
+}
+
+/* A row's entries for a date and those before it. */
+static void copy_stretch(size_t date, size_t dates, size_t category, size_t row) {
+    copy_out(day_at(date + 1 - dates, category, row), 8 * dates);
 }
 
 /* ---- the rows: call i of a round and its copy, and what has to come before */
@@ -382,11 +393,20 @@ static void run_idle(size_t i) { must_be("cells moved by nothing", run(picks[i].
 static void run_idle_copy(size_t i) {
     copy_sets_out(picks[i].date);
     copy_out(column_at(picks[i].date, 0), ROW_BYTES);
-    for (size_t c = 0; c < CATEGORIES; c++) copy_out(day_at(picks[i].date, c), 8);
+    for (size_t c = 0; c < CATEGORIES; c++) {
+        copy_out(day_at(picks[i].date, c, DAY), 8);
+        copy_out(day_at(picks[i].date, c, TOT), 8);
+        copy_out(day_at(picks[i].date, c, OFF), 8);
+    }
 }
 
+static void copy_totals(size_t date, size_t category) {
+    copy_out(day_at(date, category, DAY), 8);
+    copy_stretch(date, YEAR, category, TOT);
+    copy_stretch(date, WEEK, category, OFF);
+}
 static void totals(size_t i) { read_totals(picks[i].date, picks[i].category); }
-static void totals_copy(size_t i) { copy_columns(picks[i].date, YEAR, picks[i].category); }
+static void totals_copy(size_t i) { copy_totals(picks[i].date, picks[i].category); }
 
 static void cell(size_t i) { read_cell(picks[i].date, picks[i].category, picks[i].period); }
 static void cell_copy(size_t i) {
@@ -399,21 +419,23 @@ static void coverage(size_t i) {
     must_be("oldest of a coverage read", fields[JIHOWEKA_OLDEST], picks[i].date);
 }
 static void coverage_copy(size_t i) {
-    copy_out(day_at(picks[i].date, picks[i].category), 8);
-    copy_out(day_at(picks[i].date, picks[i].category) + DATES, 8);
+    copy_out(day_at(picks[i].date, picks[i].category, DAY), 8);
+    copy_out(day_at(picks[i].date, picks[i].category, SUMS), 8);
 }
 
 /* The imports that are netted are categories 0 to 13, their exports 14 to 27. */
 static void net_own(size_t i) { read_net(picks[i].date, picks[i].category % GROUPS, 0); }
 static void net_own_copy(size_t i) {
-    copy_columns(picks[i].date, WEEK, picks[i].category % GROUPS);
-    copy_columns(picks[i].date, WEEK, picks[i].category % GROUPS + GROUPS);
+    for (size_t c = picks[i].category % GROUPS; c < 2 * GROUPS; c += GROUPS) {
+        copy_column(picks[i].date, c);
+        copy_stretch(picks[i].date, WEEK, c, TOT);
+    }
 }
 
 static void net_all(size_t i) { read_net(picks[i].date, picks[i].category % GROUPS, 1); }
 static void net_all_copy(size_t i) {
-    for (size_t back = 0; back < WEEK; back++)
-        copy_out(column_at(picks[i].date - back, 0), 2 * GROUPS * COLUMN_BYTES);
+    copy_out(column_at(picks[i].date, 0), 2 * GROUPS * COLUMN_BYTES);
+    for (size_t c = 0; c < 2 * GROUPS; c++) copy_stretch(picks[i].date, WEEK, c, TOT);
 }
 
 /* After each 75 receptions the date of the last is run, and its totals are read. */
@@ -430,7 +452,7 @@ static void duty_copy(size_t first) {
         receive_any_copy(i);
         if (i % DUTY_INTERVAL != DUTY_INTERVAL - 1) continue;
         copy_run(picks[i].date);
-        for (size_t c = 0; c < CATEGORIES; c++) copy_columns(picks[i].date, YEAR, c);
+        for (size_t c = 0; c < CATEGORIES; c++) copy_totals(picks[i].date, c);
     }
 }
 
@@ -462,12 +484,16 @@ static void blank_dates(void) {
 }
 static void run_from_blank_copy(size_t i) {
     run_worst_copy(i);
-    for (size_t c = 0; c < CATEGORIES; c++) copy_out_and_back(day_at(0, c) + DATES, 8 * DATES);
+    for (size_t c = 0; c < CATEGORIES; c++) copy_out_and_back(day_at(0, c, SUMS), 8 * DATES);
 }
 
 static void band_of_all(size_t i) { search_band(picks[i].category, 1, 0, UINT64_MAX, DATES); }
 static void band_of_none(size_t i) { search_band(picks[i].category, 1, 1, 2, 0); }
-static void band_copy(size_t i) { copy_columns(DATES - 1, DATES, picks[i].category); }
+static void band_copy(size_t i) {
+    copy_out(store.settings + store.settings_length - DATES, DATES);
+    copy_stretch(DATES - 1, DATES, picks[i].category, DAY);
+    copy_stretch(DATES - 1, DATES, picks[i].category, TOT);
+}
 static void other_type(size_t i) { search_band(picks[i].category, 2, 0, UINT64_MAX, 0); }
 static void other_type_copy(size_t i) {
     (void)i;
@@ -497,7 +523,7 @@ static void fill_day(size_t i) {
 }
 static void fill_day_copy(size_t i) {
     copy_out(missing, PERIODS);
-    copy_columns(picks[i].date, 1, picks[i].category);
+    copy_column(picks[i].date, picks[i].category);
 }
 
 /* All values alike, and of 32 bits: no threshold parts the remainders, so the search is longest. */
@@ -518,7 +544,7 @@ static void fill_last_copy(size_t i) {
     copy_out(store.settings + store.settings_length - DATES - sizeof category_records,
              sizeof category_records);
     copy_out(missing, PERIODS);
-    copy_columns(picks[i].date, 1, LAST);
+    copy_column(picks[i].date, LAST);
 }
 
 struct row {
@@ -529,9 +555,10 @@ struct row {
 };
 
 #define A_DATE "795 KB of readings, 49 KB of cells"
+#define BAND_BYTES "800 B of settings, 2 × 6.4 KB of days"
 
 static const struct row rows[] = {
-    {"opening", "676 MB written (memset)", 1, 0, NULL, NULL, open_once, open_copy},
+    {"opening", "677 MB written (memset)", 1, 0, NULL, NULL, open_once, open_copy},
     {"registration, new meter", "4 KB of MPANs (mean), 48 B and back", METERS, 0,
      NULL, open_store, new_meter, new_meter_copy},
     {"registration, known meter", "the same, and 799 × 8 B of readings", METERS, 0,
@@ -540,33 +567,33 @@ static const struct row rows[] = {
      fill_store, NULL, receive_in_order, receive_in_order_copy},
     {"reception of 96 records, meter and date at random", "776 B into readings", 20000, 0,
      NULL, NULL, receive_any, receive_any_copy},
-    {"run, first of a date, 1,024 sets", A_DATE " and 145 KB of days (mean) and back", DATES, 0,
+    {"run, first of a date, 1,024 sets", A_DATE " and 146 KB of days (mean) and back", DATES, 0,
      NULL, empty_dates, run_first, run_first_copy},
-    {"run, 1,024 new sets", A_DATE " and 512 B of days and back", DATES_ANEW, 0,
+    {"run, 1,024 new sets", A_DATE " and 1.5 KB of days and back", DATES_ANEW, 0,
      NULL, receive_anew, run_anew, run_anew_copy},
-    {"run, 1,024 late sets for a date of copies", A_DATE " and 187 KB of days and back", DATES_ANEW,
+    {"run, 1,024 late sets for a date of copies", A_DATE " and 188 KB of days and back", DATES_ANEW,
      0, NULL, receive_late, run_late, run_late_copy},
-    {"run, nothing changed", A_DATE ", 512 B of days", 200, 0,
+    {"run, nothing changed", A_DATE ", 1.5 KB of days", 200, 0,
      NULL, NULL, run_idle, run_idle_copy},
-    {"totals read over 365 dates", "365 × 768 B of cells", 400, YEAR - 1,
+    {"totals read over 365 dates", "(365 + 7 + 1) × 8 B of days", 20000, YEAR - 1,
      NULL, NULL, totals, totals_copy},
     {"cell read", "8 B of cells", PICKS, 0, NULL, NULL, cell, cell_copy},
     {"coverage read", "2 × 8 B of days", PICKS, YEAR - 1, NULL, NULL, coverage, coverage_copy},
-    {"net read, own group", "7 × 2 × 768 B of cells", 10000, WEEK - 1,
+    {"net read, own group", "2 × 768 B of cells, 2 × 56 B of days", 10000, WEEK - 1,
      NULL, NULL, net_own, net_own_copy},
-    {"net read, all groups, 14 and 14", "7 × 21.5 KB of cells", 2000, WEEK - 1,
+    {"net read, all groups, 14 and 14", "21.5 KB of cells, 28 × 56 B of days", 2000, WEEK - 1,
      NULL, NULL, net_all, net_all_copy},
     {"a day's duty: 7,200 receptions, 96 runs, 64 totals after each", "as for each of these calls",
      1, DATES - DUTY_DATES, NULL, NULL, duty, duty_copy},
     {"the worst run: the first of 800 dates, 4,915,200 cells move",
-     "795 KB of readings, 39 MB of cells and 410 KB of days and back", 1, 0,
+     "795 KB of readings, 39 MB of cells and 1.2 MB of days and back", 1, 0,
      one_day_type, receive_first, run_worst, run_worst_copy},
     {"the same where all 800 dates were blank",
-     "795 KB of readings, 39 MB of cells and 819 KB of days and back", 1, 0,
+     "795 KB of readings, 39 MB of cells and 1.6 MB of days and back", 1, 0,
      NULL, blank_dates, run_worst, run_from_blank_copy},
-    {"band search, all 800 dates are in the band", "800 × 768 B of cells", 40, 0,
+    {"band search, all 800 dates are in the band", BAND_BYTES, 2000, 0,
      NULL, NULL, band_of_all, band_copy},
-    {"band search, none of 800 dates is", "800 × 768 B of cells", 40, 0,
+    {"band search, none of 800 dates is", BAND_BYTES, 2000, 0,
      NULL, NULL, band_of_none, band_copy},
     {"band search, no date has the day type", "800 B of settings", 2000, 0,
      NULL, NULL, other_type, other_type_copy},

@@ -28,9 +28,9 @@ SECONDS = 60                               # after which a list of calls does no
 ENOUGH = 20_000                            # calls that reach every number
 LONGEST = 100_000                          # entries of an array; a longer one is not lent here
 # How often each call is made once the first meters are registered. Dates are mostly run again, and
-# coverage is read in between.
-TURNS = {'opening': 1, 'registration': 10, 'reception': 26, 'run': 26, 'totals': 12, 'cell': 12,
-         'net': 12, 'band': 12, 'fill': 12, 'fill_opted_out': 12, 'coverage': 26}
+# what runs keep in days is read in between.
+TURNS = {'opening': 1, 'registration': 10, 'reception': 26, 'run': 26, 'totals': 26, 'cell': 12,
+         'net': 18, 'band': 18, 'fill': 12, 'fill_opted_out': 12, 'coverage': 26}
 
 
 class Caller:
@@ -145,10 +145,11 @@ class Caller:
     # Stores that the calls did not make
 
     def strange(self, count):
-        """Entries of all kinds: none, small, readings, cells, MPANs, anything."""
+        """Entries of all kinds: none, small, readings, cells, totals, MPANs, anything."""
         rng, flag = self.rng, self.rng.randrange(8)
         kinds = [0, 0, 0, 1, 2, 3, 2 ** 32 + 500, 2 ** 33, 500 * 2 ** 32 + 65536 + 8 + flag,
-                 2 ** 64 - 8 + flag, *self.mpans, *(rng.getrandbits(64) for _ in range(4))]
+                 2 ** 48 + 500, 2 ** 64 - 8 + flag, *self.mpans,
+                 *(rng.getrandbits(64) for _ in range(4))]
         return struct.pack(f'{count}Q', *rng.choices(kinds, k=count))
 
     def scramble(self):
@@ -338,9 +339,9 @@ class Caller:
         return [self.date_to_read(), category, all_groups]
 
     def band(self):
-        """Ends at the TOT of a run date, next to it, or far off."""
+        """Ends at the TOT of a run date, next to it, or far off; 500 is that of a strange one."""
         rng, aims, category = self.rng, self.aims, self.category()
-        ends = [0, 2 ** 64 - 1]
+        ends = [0, 500, 2 ** 64 - 1]
         for _ in range(2 if aims.pictures else 0):
             tot = aims.tot([rng.choice(list(aims.pictures))], category)
             ends += tot, tot, max(0, tot + rng.choice((-1, 1)))

@@ -8,19 +8,15 @@ the first difference.
 """
 
 import faulthandler
-import struct
 import sys
 from collections import Counter
 
-from library import CALLS, FIELDS, PARTS, WIDTHS, Library, Sizes, Store, make
-from streams import TOP, valid_mpan
-from worked_example import reading
+from cases import LARGEST, Case
+from library import PARTS, Library
 
-# Keys of categories: two of one family, and one of none.
-HERE, THERE, ADVANCED = (1, 1, 1, 1, 1), (1, 2, 1, 1, 1), (2, 0, 0, 1, 1)
+# Categories without a window: two of one family, and one of none.
+HERE, THERE, ADVANCED = (1, 1, 1, 1, 1, 0), (1, 2, 1, 1, 1, 0), (2, 0, 0, 1, 1, 0)
 NONE = 65535                               # the oldest origin where all cells are blank
-PAST = 2                                   # entries of each part past its least length
-LARGEST = 2 ** 64 - 1                      # number, and entry of days
 
 # The paper's example, in half hours and in quarters: date -> its coverage, or the number of the
 # refusal; first with three readings on date 0 and one on date 4, then with one on each.
@@ -33,55 +29,19 @@ EXAMPLE = {
 ORDERS = (((0, 3), (4, 3), (8, 3)), ((8, 0), (4, 2), (0, 7)), ((0, 3), (8, 3), (4, 4)))
 
 
-class Case:
-    """A store with a meter for each category, opened on parts that are full of other things."""
-
-    def __init__(self, library, reached, duration, day_types, *keys):
-        self.store, self.duration = Store(library, reached), duration
-        self.sizes = Sizes(duration, len(keys), len(keys), len(day_types))
-        self.store.parts = {part: b'\xa5' * (WIDTHS[part] * (least + PAST))
-                            for part, least in self.sizes.least().items()}
-        self.opening = (duration, len(keys), b''.join(bytes((*key, 0, 0, 1)) for key in keys),
-                        bytes(day_types))
-        self.open()
-
-    def open(self):
-        make(self.store, ('ok',), 'opening', *self.opening)
-        assert not any(self.store.parts['days'][:-WIDTHS['days'] * PAST]), 'days is not emptied'
-        for category in range(self.sizes.categories):
-            make(self.store, ('ok',), 'registration', valid_mpan(category + 1), 0, 0, category,
-                 7, 1, TOP)
-
+class Coverages(Case):
     def receive(self, date, *periods, category=0):
         """A set with readings in these periods, of one value each."""
-        body = b''.join(reading(self.duration * period, 10 * period) for period in periods)
-        make(self.store, ('ok',), 'reception', 7, valid_mpan(category + 1), date, self.duration, 1,
-             body)
+        self.receive_day(date, {period: 10 * period for period in periods}, category)
 
-    def run(self, date, moved):
-        make(self.store, ('ok', moved), 'run', date)
-
-    def put_days(self, day, sums):
+    def put_counts(self, day, sums):
         """The same day and the same sums for all dates and categories, which no run made."""
-        dates, past = self.sizes.dates, self.store.parts['days'][-WIDTHS['days'] * PAST:]
-        days = ([day] * dates + [sums] * dates) * self.sizes.categories
-        self.store.replace({**self.store.parts, 'days': struct.pack(f'{len(days)}Q', *days) + past})
+        self.put_days(*[(day, sums, LARGEST, LARGEST)] * self.sizes.categories)
 
     def covers(self, rows, category=0):
         """Date -> the five numbers, or the number of the refusal."""
         for date, due in rows.items():
-            due = ('no', due, 0) if isinstance(due, int) else ('ok', *due)
-            make(self.store, due, 'coverage', date, category)
-            self.store.reached['by hand'] += 1
-
-    def cut(self, name, *arguments):
-        """The call with each of its parts an entry too short, then with too few fields."""
-        for part in CALLS[name].parts:
-            least = WIDTHS[part] * self.sizes.least()[part]
-            make(self.store, ('no', 1, 0), name, *arguments,
-                 **{part: self.store.parts[part][:least - WIDTHS[part]]})
-        make(self.store, ('no', 1, 0), name, *arguments,
-             fields=bytes(WIDTHS['fields'] * (FIELDS - 1)))
+            self.ask(due, 'coverage', date, category)
 
 
 def example(store, duration, order):
@@ -262,10 +222,9 @@ def foreign(store):
     case = store(30, (1, 1), HERE, THERE)
     settings = bytearray(case.store.parts['settings'])
     settings[8:24] = bytes(16)             # of the category records only their count matters
-    days = struct.pack('8Q',
-                       0, 1, LARGEST, 2 + 3 * 2 ** 16 + 4 * 2 ** 32 + 5 * 2 ** 48,
-                       2 ** 48 + 6 * 2 ** 32 + 7, LARGEST, 0, LARGEST)
-    case.store.replace({**case.store.parts, 'settings': bytes(settings), 'days': days})
+    case.store.replace({**case.store.parts, 'settings': bytes(settings)})
+    case.put_days(([0, 1], [LARGEST, 2 + 3 * 2 ** 16 + 4 * 2 ** 32 + 5 * 2 ** 48], LARGEST, 0),
+                  ([2 ** 48 + 6 * 2 ** 32 + 7, LARGEST], [0, LARGEST], 0, LARGEST))
     case.covers({0: 14, 1: (2, 3, 4, 5, 0), 2: 9})
     case.covers({0: (0, 0, 0, 0, 6), 1: (65535, 65535, 65535, 65535, 65535), 2: 9}, category=1)
     case.covers({0: 15, 1: 15, 2: 9}, category=2)
@@ -279,7 +238,7 @@ def foreign_runs(store):
     case, full = store(30, [1] * 368, HERE, ADVANCED), [65535] * 4
     case.receive(1, 1, 2, 3)
     # From 2^32 - 1 to 3 and 45 * 2^16: by 4 and 45 * 2^16, and 2^32 less.
-    case.put_days(LARGEST, 0)
+    case.put_counts(LARGEST, 0)
     case.run(1, 3)
     case.covers({0: (0, 0, 0, 0, NONE), 1: (4, 45, 3, 45, 1), 2: (4, 45, 3, 45, NONE),
                  7: (4, 45, 3, 45, NONE), 8: (0, 0, 4, 45, NONE), 365: (0, 0, 4, 45, NONE),
@@ -288,7 +247,7 @@ def foreign_runs(store):
     case.covers({0: (0, 0, 0, 0, NONE), 1: (1, 48, 0, 48, NONE), 7: (1, 48, 0, 48, NONE),
                  8: (0, 0, 1, 48, NONE), 366: (0, 0, 0, 0, NONE)}, category=1)
     # No cell moves, and the day is put all the same: from 1, by 2 and 45 * 2^16, past 2^64.
-    case.put_days(1, LARGEST)
+    case.put_counts(1, LARGEST)
     case.run(1, 0)
     case.covers({0: (*full, 0), 1: (1, 45, 2, 45, 1), 7: (1, 45, 2, 45, 0),
                  8: (65535, 65535, 1, 45, 0), 365: (65535, 65535, 1, 45, 0), 366: (*full, 0)})
@@ -296,11 +255,11 @@ def foreign_runs(store):
     case.covers({1: (65534, 47, 65535, 47, NONE), 7: (65534, 47, 65535, 47, 0),
                  8: (65535, 65535, 65534, 47, 0), 366: (*full, 0)}, category=1)
     # The counts are those of the run: the day is put, its sums stay.
-    case.put_days(48 * 2 ** 16 + 5 * 2 ** 32, LARGEST)
+    case.put_counts(48 * 2 ** 16 + 5 * 2 ** 32, LARGEST)
     case.run(1, 0)
     case.covers({0: (*full, 5), 1: (*full, NONE), 2: (*full, 5)}, category=1)
     # By the days no date is run: from 0.
-    case.put_days(0, LARGEST)
+    case.put_counts(0, LARGEST)
     case.run(1, 0)
     case.covers({0: 14, 1: (2, 45, 3, 45, 1), 2: 14})
     case.covers({0: 14, 1: (65535, 47, 0, 48, NONE), 2: 14}, category=1)
@@ -311,7 +270,7 @@ def foreign_runs(store):
     case.receive(1)
     # Dates 1 and 2 go from 5 and 100 * 2^16, more than there are periods, to 48 * 2^16. Each takes
     # 5 and 52 * 2^16 off, below 0; nothing moves on date 3, so the days stay from there on.
-    case.put_days(5 + 100 * 2 ** 16 + 9 * 2 ** 32, 0)
+    case.put_counts(5 + 100 * 2 ** 16 + 9 * 2 ** 32, 0)
     case.run(1, 6)
     for category in 0, 1:
         case.covers({0: (0, 0, 0, 0, 9), 1: (65531, 65483, 65530, 65483, NONE),
@@ -328,7 +287,7 @@ def main():
     library, reached = Library(sys.argv[1]), Counter()
 
     def store(*opening):
-        return Case(library, reached, *opening)
+        return Coverages(library, reached, *opening)
 
     for cases in (worked, windows_left, whole_year, reverse, chain, origins, middle, family,
                   foreign, foreign_runs):

@@ -202,7 +202,7 @@ def saved_size():
     meters, categories, dates = len(METERS), len(CATEGORIES), len(DAY_TYPES)
     settings = 8 + 8 * categories + dates
     numbers = (41 * meters + dates * meters * (1 + PERIODS) + dates * categories * PERIODS
-               + 2 * categories * dates)
+               + 4 * categories * dates)
     return 8 * (6 + numbers) + settings
 
 

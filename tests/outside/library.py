@@ -5,10 +5,11 @@ first entry and a page behind its last that nobody may touch: an access past its
 end ends the process, and a write before it is found.
 
 On a store that the calls made, every answer must be the ledger's. On any other,
-only what holds of every store is tested: the refusals for lengths and for
-arguments out of range, what else a call may answer, and what it must leave alone.
-The days that a run leaves are worked out on every store, from those before it and
-the cells before and after it.
+totals, nets, bands and coverage must be what the parts lent for them say. Of the
+other calls only what holds of every store is tested: the refusals for lengths and
+for arguments out of range, what else a call may answer, and what it must leave
+alone. The days that a run leaves are worked out on every store, from those before
+it and the cells before and after it.
 """
 
 import ctypes
@@ -17,7 +18,8 @@ import struct
 import sys
 from typing import NamedTuple
 
-from ledger import DAY, Ledger, mpan_good, no, opening
+from ledger import (DAY, EXPORT, IMPORT, SMART, WINDOWS, Category, Ledger, mpan_good, no, opening,
+                    rounded, window_periods)
 
 FIELDS = 11                                # entries that `fields` has at least
 HEADER = '>4H'                             # of the settings: duration, meters, categories, dates
@@ -28,7 +30,9 @@ ARRAYS = {'settings': 'B', 'meters': 'Q', 'readings': 'Q', 'cells': 'Q', 'days':
           'numbers': 'q', 'marks': 'B', 'dates': 'Q', 'filled': 'Q', 'fields': 'q'}
 WIDTHS = {name: struct.calcsize(letter) for name, letter in ARRAYS.items()}
 PARTS = ('settings', 'meters', 'readings', 'cells', 'days')
-WEEK, YEAR = 7, 365                        # dates whose counts are in a sum
+ROWS = 4                                   # of a category in days: day, sums, TOT and OFF
+WEEK, YEAR = 7, 365                        # dates that are summed
+RUN = 2 ** 48                              # a run date, in an entry of day or TOT
 BITS = {'sender': 16, 'limit': 32, 'advance': 32}      # of a number; all others have 64
 
 
@@ -65,13 +69,13 @@ CALLS = {
                       1, 9, 6, 7, 2, 1001, 1002, 1004, 13, 1005, 1006, 1008, 1009, 1011, 1012),
     'run': call('jihoweka_run', 'settings meters readings cells days', 'cells days', 'date', '',
                 1, 1, 9),
-    'totals': call('jihoweka_read_totals', 'settings cells', '', 'date category', '', 11,
+    'totals': call('jihoweka_read_totals', 'settings days', '', 'date category', '', 11,
                    1, 9, 15, 14),
     'cell': call('jihoweka_read_cell', 'settings cells', '', 'date category period', '', 4,
                  1, 9, 15, 14),
-    'net': call('jihoweka_read_net', 'settings cells', '', 'date category all_groups',
+    'net': call('jihoweka_read_net', 'settings cells days', '', 'date category all_groups',
                 'numbers marks', 2, 1, 9, 15, 26, 14),
-    'band': call('jihoweka_search_band', 'settings cells', '', 'category day_type least most',
+    'band': call('jihoweka_search_band', 'settings days', '', 'category day_type least most',
                  'dates', 2, 1, 15),
     'fill': call('jihoweka_fill', 'settings cells', '', 'date category advance missing', 'filled',
                  0, 1, 9, 15, 14, 17),
@@ -190,7 +194,7 @@ class Sizes(NamedTuple):
                 'meters': 41 * self.meters,
                 'readings': self.dates * self.meters * (1 + self.periods),
                 'cells': self.dates * self.categories * self.periods,
-                'days': 2 * self.categories * self.dates}
+                'days': ROWS * self.categories * self.dates}
 
 
 def sizes_of(ledger):
@@ -220,7 +224,18 @@ def day_of(cells):
     shaped = [cell for cell in cells if cell % 8 in (1, 2, 3)]
     oldest = min((cell >> 16 & 65535 for cell in shaped), default=65535)
     fresh, blank = flags.count(1) + flags.count(2), len(cells) - len(shaped)
-    return fresh + (blank << 16) + (oldest << 32) + (1 << 48)
+    return fresh + (blank << 16) + (oldest << 32) + RUN
+
+
+def tot_and_off(cells, window, duration):
+    """The entries of TOT and OFF for the same; a window that there is not has no periods."""
+    off_peak = window_periods(window, duration) if window in WINDOWS else ()
+    return sum(cell >> 32 for cell in cells) + RUN, sum(cells[j - 1] >> 32 for j in off_peak)
+
+
+def summed(row, date, length):
+    """The entries of a row for this date and the length - 1 before, modulo 2^64."""
+    return sum(row[max(0, date + 1 - length):date + 1]) % 2 ** 64
 
 
 class Store:
@@ -295,21 +310,80 @@ class Store:
             return no(15)
         return None
 
+    # What any store answers alike, from the parts that are lent
+
+    def opening_kept(self, given):
+        """An empty ledger with the categories and day types of any settings."""
+        settings, after = given['settings'], 8 + 8 * self.sizes.categories
+        categories = [Category(*record) for record in struct.iter_unpack('>6BH', settings[8:after])]
+        return Ledger(self.sizes.duration, self.sizes.meters, categories,
+                      settings[after:after + self.sizes.dates])
+
     def opted_out_kept(self, given):
         """Whether the settings keep a Smart domestic category record with these three."""
-        key = [1, given['group'], 1, given['quantity'], given['connection']]
-        first, records = struct.calcsize(HEADER), given['settings']
-        return any(list(records[at:at + 5]) == key
-                   for at in range(first, first + 8 * self.sizes.categories, 8))
+        key = 1, given['group'], 1, given['quantity'], given['connection']
+        return any(category.key == key for category in self.opening_kept(given).categories)
+
+    def category_rows(self, given, category):
+        """The rows of a category in days: day, sums, TOT and OFF, each with an entry for a date."""
+        dates, width = self.sizes.dates, WIDTHS['days']
+        return [struct.unpack_from(f'{dates}Q', given['days'], width * dates * row)
+                for row in range(ROWS * category, ROWS * (category + 1))]
+
+    def totals_kept(self, given):
+        date, category = given['date'], given['category']
+        window = self.opening_kept(given).categories[category].window
+        day, _, tot, off = self.category_rows(given, category)
+        if day[date] == 0:
+            return no(14)
+        week, year = summed(tot, date, WEEK), summed(tot, date, YEAR)
+        days, annual = year // RUN, year % RUN
+        if days != YEAR:
+            annual = rounded(annual * YEAR, days) if days else 0
+        six = ()
+        for energy, off_peak in ((tot[date], off[date]), (week, summed(off, date, WEEK))):
+            energy, off_peak = energy % RUN, off_peak % RUN
+            six += energy, off_peak, max(0, energy - off_peak) if window else 0
+        fresh, blank = day[date] & 65535, day[date] >> 16 & 65535
+        return 'ok', *six, week // RUN, annual, days, fresh, blank
 
     def coverage_kept(self, given):
-        """The coverage as its two entries in days say it, which any store answers alike."""
-        day = 2 * self.sizes.dates * given['category'] + given['date']
-        kept, sums = (struct.unpack_from('Q', given['days'], 8 * entry)[0]
-                      for entry in (day, day + self.sizes.dates))
-        if kept == 0:
+        day, sums, _, _ = (row[given['date']]
+                           for row in self.category_rows(given, given['category']))
+        if day == 0:
             return no(14)
-        return ('ok', *(sums >> shift & 65535 for shift in (0, 16, 32, 48)), kept >> 32 & 65535)
+        return ('ok', *(sums >> shift & 65535 for shift in (0, 16, 32, 48)), day >> 32 & 65535)
+
+    def net_kept(self, given):
+        """The date's periods from the cells, the week from the days."""
+        date, periods, kept = given['date'], self.sizes.periods, self.opening_kept(given)
+        asked, all_groups = kept.categories[given['category']], given['all_groups'] != 0
+        imports = kept.side(asked, IMPORT, all_groups)
+        exports = kept.side(asked, EXPORT, all_groups)
+        if asked.segment != SMART or asked.quantity != IMPORT or not exports:
+            return no(26)
+        width = self.sizes.categories * periods
+        row = struct.unpack_from(f'{width}Q', given['cells'], WIDTHS['cells'] * width * date)
+        if row[0] % 8 == 0:
+            return no(14)
+        nets, marks, tot7 = [0] * periods, [0] * periods, 0
+        for category in imports + exports:
+            sign = 1 if category in imports else -1
+            for j, cell in enumerate(row[periods * category:periods * (category + 1)]):
+                nets[j] += sign * (cell >> 32)
+                marks[j] |= cell % 8 not in (1, 2, 3)
+            _, _, tot, _ = self.category_rows(given, category)
+            tot7 += sign * (summed(tot, date, WEEK) % RUN)
+        return 'ok', sum(nets), tot7, nets, marks
+
+    def band_kept(self, given):
+        day, _, tot, _ = self.category_rows(given, given['category'])
+        day_type, day_types = given['day_type'], self.opening_kept(given).day_types
+        dates = [date for date in range(self.sizes.dates)
+                 if day[date] != 0 and day_types[date] == day_type and 1 <= day_type <= 16
+                 and given['least'] <= tot[date] % RUN <= given['most']]
+        written = dates[:len(given['dates']) // WIDTHS['dates']]
+        return 'ok', len(written), len(dates), written
 
     def heard(self, name, number, after):
         """What came, in the form of the ledger's answers."""
@@ -327,6 +401,10 @@ class Store:
 
     def test_possible(self, name, given, came):
         """What holds of all other answers on any store."""
+        if name in ('totals', 'net', 'band', 'coverage'):
+            due = getattr(self, f'{name}_kept')(given)
+            if came != due:
+                raise Difference(f'the parts say {due}\ncame          {came}')
         number, place = came[1:] if came[0] == 'no' else (0, 0)
         records = len(given.get('body', b'')) // 7
         places = {0} if number not in OF_RECORDS else range(1, records + 1)
@@ -336,15 +414,9 @@ class Store:
                     and place in places)
         if number == 0 and name == 'cell':
             possible &= came[1] in map(ord, 'ADEN')
-        if number == 0 and name == 'net':
-            possible &= set(came[4]) <= {0, 1}
-        if number == 0 and name == 'band':
-            possible &= came[1] == min(came[2], len(given['dates']) // WIDTHS['dates'])
         if number == 0 and 'advance' in given:
             marked = [wh for wh, mark in zip(came[1], given['missing']) if mark]
             possible &= sum(marked) == sum(came[1]) == given['advance']
-        if name == 'coverage':
-            possible = came == self.coverage_kept(given)
         if not possible:
             raise Difference(f'came {came}, which cannot be')
 
@@ -390,18 +462,22 @@ class Store:
             yield date, [cell for cell, in struct.iter_unpack('Q', new)]
 
     def test_days(self, given, after):
-        """Whether a run put the days and raised the sums by what changed, modulo 2^64."""
+        """Whether a run put day, TOT and OFF, and raised the sums by what changed, modulo 2^64."""
         dates, periods, least = self.sizes.dates, self.sizes.periods, self.sizes.least()['days']
         due = list(struct.unpack_from(f'{least}Q', given['days']))
+        windows = [category.window for category in self.opening_kept(given).categories]
         for date, row in self.rows_kept(given, after):
-            for category in range(self.sizes.categories):
-                day = 2 * dates * category + date
-                new = day_of(row[periods * category:periods * (category + 1)])
+            for category, window in enumerate(windows):
+                first = ROWS * dates * category + date
+                day, sums, tot, off = range(first, first + ROWS * dates, dates)
+                cells = row[periods * category:periods * (category + 1)]
+                new = day_of(cells)
                 change = new % 2 ** 32 - due[day] % 2 ** 32
                 due[day] = new
+                due[tot], due[off] = tot_and_off(cells, window, self.sizes.duration)
                 for ahead in range(min(YEAR, dates - date) if change else 0):
                     raised = (change << 32) + (change if ahead < WEEK else 0)
-                    due[day + dates + ahead] = (due[day + dates + ahead] + raised) % 2 ** 64
+                    due[sums + ahead] = (due[sums + ahead] + raised) % 2 ** 64
         for at, came in enumerate(struct.unpack_from(f'{least}Q', after['days'])):
             if came != due[at]:
                 raise Difference(f'entry {at} of days is {came} where {due[at]} is due')

@@ -8,8 +8,8 @@ the order the paper gives them, moved by comparing every cell of every date,
 totals by minutes and fractions, nets by adding each cell with its sign, bands by
 adding each date's cells, fills by whole numbers, one Wh after the other, coverage
 by the age of each cell's date. Then known slips: the ledger's text is changed in
-one place, and some stream, or for nets, bands, fills and coverage some random
-store, must hear the difference.
+one place, and some stream, or for nets, bands, fills, coverage and totals after
+reruns some random store, must hear the difference.
 """
 
 import random
@@ -341,8 +341,8 @@ def fill_answers(opening, seed):
     return answers
 
 
-def coverage_answers(opening, seed):
-    """Coverages of a random store, its dates close together or a year apart, after each rerun."""
+def reread(call, opening, seed):
+    """A read of a random store, its dates close together or a year apart, after each rerun."""
     rng = random.Random(seed)
     dates = rng.choice((range(9), (0, 1, 6, 7, 8, 364, 365, 366, 371)))
     store = small_store(opening, rng, dates=dates)
@@ -350,16 +350,24 @@ def coverage_answers(opening, seed):
     for rerun in rng.choices(dates, k=4):
         receive_some(store, rng, rng.randrange(6), rerun)
         store.run(rerun)
-        answers += [store.coverage(date, category) for date in (*dates, store.dates)
+        answers += [getattr(store, call)(date, category) for date in (*dates, store.dates)
                     for category in range(len(store.categories) + 1)]
     return answers
+
+
+def coverage_answers(opening, seed):
+    return reread('coverage', opening, seed)
+
+
+def totals_answers(opening, seed):
+    return reread('totals', opening, seed)
 
 
 def check_twice(streams, commands, stores):
     for seed in range(streams):
         list(Doubling(stream(seed, 'small', commands), program.PROFILES['small']).answers())
     for seed in range(stores):
-        for answers in net_answers, band_answers, fill_answers, coverage_answers:
+        for answers in net_answers, band_answers, fill_answers, coverage_answers, totals_answers:
             answers(lambda *given: doubled(ledger.opening(*given)), seed)
     return Doubled.checked
 
@@ -633,6 +641,57 @@ COVERAGE_SLIPS = [
      '        week, year = ('),
 ]
 
+# And for totals after reruns.
+TOTALS_SLIPS = [
+    ('has a week of six dates', 'week, year = self.run_dates(date, 7)',
+     'week, year = self.run_dates(date, 6)'),
+    ('has a week of eight dates', 'week, year = self.run_dates(date, 7)',
+     'week, year = self.run_dates(date, 8)'),
+    ('has a year of 364 dates', 'self.run_dates(date, 365)', 'self.run_dates(date, 364)'),
+    ('has a year of 366 dates', 'self.run_dates(date, 365)', 'self.run_dates(date, 366)'),
+    ('counts dates not run', 'len(week), annual, len(year)',
+     'min(7, date + 1), annual, min(365, date + 1)'),
+    ('scales by dates not run', 'rounded(annual * 365, len(year))',
+     'rounded(annual * 365, min(365, date + 1))'),
+    ('rounds ANN down', 'rounded(annual * 365, len(year))', 'annual * 365 // len(year)'),
+    ('takes one window for the other', 'off_peak = window_periods(window, ',
+     'off_peak = window_periods((0, 2, 1)[window], '),
+    ('takes OFF for PEAK', 'return tot(dates) - off(dates) if', 'return off(dates) if'),
+    ('keeps the TOT that it gave first', 'return self.tot(dates, category)',
+     'kept = self.__dict__.setdefault("kept", {})\n'
+     '            return sum(kept.setdefault((d, category), self.tot([d], category))\n'
+     '                       for d in dates)'),
+    ('keeps TOT until the date is run again', 'return self.tot(dates, category)',
+     'kept = self.__dict__.setdefault("kept", {})\n'
+     '            for d in dates:\n'
+     '                if kept.get((d, category), [None])[0] is not self.pictures[d]:\n'
+     '                    kept[d, category] = self.pictures[d], self.tot([d], category)\n'
+     '            return sum(kept[d, category][1] for d in dates)'),
+    ('keeps TOT until a flag of the date changes', 'return self.tot(dates, category)',
+     'kept = self.__dict__.setdefault("kept", {})\n'
+     '            return sum(kept.setdefault(\n'
+     '                (d, category, *(cell.flag for cell in self.cells[d][category])),\n'
+     '                self.tot([d], category)) for d in dates)'),
+    ('keeps OFF until a flag of the date changes',
+     'return sum(self.cells[d][category][j - 1].value for d in dates for j in off_peak)',
+     'kept = self.__dict__.setdefault("kept", {})\n'
+     '            return sum(kept.setdefault(\n'
+     '                (d, category, *(cell.flag for cell in self.cells[d][category])),\n'
+     '                sum(self.cells[d][category][j - 1].value for j in off_peak))\n'
+     '                for d in dates)'),
+    ('keeps ANN until the date is run again', 'annual = tot(year)\n',
+     'kept = self.__dict__.setdefault("kept", {})\n'
+     '        if kept.get((date, category), [None])[0] is not self.pictures[date]:\n'
+     '            kept[date, category] = self.pictures[date], tot(year)\n'
+     '        annual = kept[date, category][1]\n'),
+    ('finds a date not run before a category that is absent',
+     'if category >= len(self.categories):\n            return no(15)\n'
+     '        if date not in self.pictures:\n            return no(14)\n        window = ',
+     'if date not in self.pictures:\n            return no(14)\n'
+     '        if category >= len(self.categories):\n            return no(15)\n'
+     '        window = '),
+]
+
 
 def changed_program(old, new):
     """The command program on the ledger with one place of its text changed."""
@@ -682,7 +741,9 @@ def main():
              and heard_each(FILL_SLIPS, 'store',
                             lambda program, seed: fill_answers(program.opening, seed))
              and heard_each(COVERAGE_SLIPS, 'store',
-                            lambda program, seed: coverage_answers(program.opening, seed)))
+                            lambda program, seed: coverage_answers(program.opening, seed))
+             and heard_each(TOTALS_SLIPS, 'store',
+                            lambda program, seed: totals_answers(program.opening, seed)))
     return 0 if heard else 1
 
 

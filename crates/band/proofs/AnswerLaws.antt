@@ -1,7 +1,7 @@
 -- What a band search answers and leaves, where a check fails, where nothing can be found, and else.
 use Prim.Native.Nat.{ℕ, _≤_, _<_, min}
 use mathlib.Core.Path.{_≡_, refl, sym, ap, _∙_}
-use mathlib.Core.Bool.{true, false, not, _&&_, and-eq-true-iff}
+use mathlib.Core.Bool.{true, false}
 use mathlib.Core.List.{List, []}
 use native.Mathlib.Nat.{min-zero}
 use lib.Dec.{leb}
@@ -11,35 +11,32 @@ use borrow.Table.Steps.{cases}
 use borrow.Author.Tests.{lt-leb, le-leb, ltb-true, not-false}
 use Rattle.metering.specs.Range.{dayTypeValid}
 use Rattle.ledger.specs.Table.{chosenBelow}
-use Rattle.ledger.specs.Method.{totOn, totalsOn}
 use Rattle.ledger.specs.Band.{Band, inBand, bandDates, bandOn}
 use Rattle.ledger.specs.Checks.{Verdict, bandCheck, totalsInRange}
 use Rattle.ledger.specs.Ledger.{Answer, answer, bandIs, refused, left}
-use Rattle.ledger.specs.Store.{settingsReady, cellsReady, categoriesOf, datesOf, rowLength}
-use Rattle.ledger.specs.Calls.{cellsUnready, cellFor, totalsFor, bandVerdict, bandFor, overwritten}
+use Rattle.ledger.specs.Store.{categoriesOf, datesOf}
+use Rattle.ledger.specs.Calls.{daysUnready, bandVerdict, bandFor, overwritten}
 use Rattle.ledger.proofs.Verdicts.{refused-is, kept-is, given-is, after-is}
 use Rattle.ledger.proofs.Choices.{check-passed}
-use Rattle.store.specs.declared.column.Column.{Column}
-use Rattle.store.specs.Column.{columnOf}
-use Rattle.store.proofs.ColumnLaws.{column-reaches}
+use Rattle.store.proofs.DayLaws.{days-lent}
 use Rattle.band.specs.declared.dates.Sought.{Sought}
 use Rattle.band.specs.Search.{bandCall, isSought, listed, MaySearch}
 
 -- all that is known where the checks passed
-pub may-search : (s cells : List ℕ) (category : ℕ) {column : Column} → column ≡ columnOf s category → bandCheck (cellsUnready s cells) (totalsInRange (categoriesOf s) category) ≡ 0 → MaySearch s cells column
-unfolding bandCheck cellsUnready totalsInRange
-may-search s cells category e h =
-    let p1 = check-passed (not (settingsReady s && cellsReady s cells)) 0 _ h in
+pub may-search : (s days : List ℕ) (category : ℕ) → bandCheck (daysUnready s days) (totalsInRange (categoriesOf s) category) ≡ 0 → MaySearch s days category
+unfolding bandCheck totalsInRange
+may-search s days category h =
+    let p1 = check-passed (daysUnready s days) 0 _ h in
     let p15 = check-passed _ 14 0 (p1 .1) in
-    let ready = and-eq-true-iff (settingsReady s) (cellsReady s cells) .0 (not-false _ (p1 .0)) in
-    rw e (record { opened = ready .0; reaches = λ d l. column-reaches s cells d category (ready .0) (ready .1) l (ltb-true _ _ (not-false _ (p15 .0))) })
+    let ready = days-lent s days refl (p1 .0) in
+    record { opened = ready .0; room = ready .1; a-category = ltb-true _ _ (not-false _ (p15 .0)) }
 
-module _ (s cells : List ℕ) (category dayType least most : ℕ) (lent : List ℕ) (n : ℕ) (is : n ≡ bandCheck (cellsUnready s cells) (totalsInRange (categoriesOf s) category)) where
+module _ (s days : List ℕ) (category dayType least most : ℕ) (lent : List ℕ) (n : ℕ) (is : n ≡ bandCheck (daysUnready s days) (totalsInRange (categoriesOf s) category)) where
   abbrev v : Verdict
-  v = bandVerdict s cells (bandCall category dayType least most lent)
+  v = bandVerdict s days (bandCall category dayType least most lent)
 
   abbrev gives : Band
-  gives = bandFor s cells (bandCall category dayType least most lent)
+  gives = bandFor s days (bandCall category dayType least most lent)
 
   -- what the contract asks of an answer and of the list
   abbrev Meets : Answer → List ℕ → Type 0
@@ -72,18 +69,17 @@ module _ (s cells : List ℕ) (category dayType least most : ℕ) (lent : List �
   sought = record { «day_type» = dayType; least = least; most = most }
 
   abbrev all : List ℕ
-  all = chosenBelow (datesOf s) (isSought s cells (columnOf s category) sought)
+  all = chosenBelow (datesOf s) (isSought s days category sought)
 
   -- the code's test of a date is the definition's
   all-are : least ≤ most → dayTypeValid dayType ≡ true → gives ≡ record { written = min (length lent) (length all); found = length all; dates = take (length lent) all }
-  unfolding bandFor bandOn bandDates inBand totalsFor totalsOn totOn cellFor rowLength
+  unfolding bandFor bandOn bandDates inBand
   all-are order type = rw (le-leb least most order, type)
 
-  pub finds : {column : Column} (written count : ℕ) (dates : List ℕ) → n ≡ 0 → column ≡ columnOf s category → least ≤ most → dayTypeValid dayType ≡ true →
-      (count ≡ length (chosenBelow (datesOf s) (isSought s cells column sought))) × (dates ≡ listed (chosenBelow (datesOf s) (isSought s cells column sought)) lent) → written ≡ min (length lent) count →
+  pub finds : (written count : ℕ) (dates : List ℕ) → n ≡ 0 → least ≤ most → dayTypeValid dayType ≡ true →
+      (count ≡ length all) × (dates ≡ listed all lent) → written ≡ min (length lent) count →
       Meets (bandIs (record { written = written; found = count; dates = take written dates })) dates
-  finds written count dates passes column-is order type listing shorter =
-      let (counted, are) : (count ≡ length all) × (dates ≡ listed all lent) = rw column-is at listing in
+  finds written count dates passes order type (counted, are) shorter =
       let wrote : written ≡ length (take (length lent) all) = shorter ∙ rw counted (sym (length-take (length lent) all)) in
       let front : take written dates ≡ take (length lent) all = rw (are, wrote) (unfold listed overwritten in take-at (take (length lent) all) _ _ refl) in
       accepts _ dates passes

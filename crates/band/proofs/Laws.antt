@@ -1,6 +1,6 @@
--- Laws of the walk over dates: the tests of a date, and a list with room for some dates.
+-- Laws of the walk over dates: a date's entries, its tests, and a list with room for some dates.
 use Prim.Native.Nat.{ℕ, suc, _+_, _≤_, _<_}
-use mathlib.Core.Path.{_≡_, refl, sym, ap, _∙_}
+use mathlib.Core.Path.{_≡_, refl, sym, _∙_}
 use mathlib.Core.Bool.{Bool, true, false, cond}
 use mathlib.Core.List.{List, [], _∷_, _++_, append-assoc, append-nil}
 use native.Mathlib.Omega.{arith}
@@ -14,35 +14,43 @@ use borrow.Author.Tests.{eq-eqb, ne-eqb, lt-leb, le-leb, leb-true, leb-false}
 use Rattle.ledger.specs.Table.{chosenBelow}
 use Rattle.ledger.proofs.Chosen.{chosen-few}
 use Rattle.ledger.specs.Band.{inBand}
-use Rattle.ledger.specs.Store.{dayTypeOf}
-use Rattle.ledger.specs.Calls.{overwritten}
-use Rattle.store.specs.declared.column.Column.{Column}
-use Rattle.store.specs.Column.{runIn}
-use Rattle.reads.specs.declared.periods.DayFigures.{DayFigures}
-use Rattle.reads.specs.Figures.{noPeriod, DayFigured}
+use Rattle.ledger.specs.Store.{datesOf, dayTypeOf, totRow, dayIndex, isRunDay, energyOf, totalsOf}
+use Rattle.ledger.specs.Calls.{entriesAt, totalsFor, overwritten}
+use Rattle.store.specs.Days.{RowsFit}
+use Rattle.store.proofs.DayLaws.{rows-fit}
 use Rattle.band.specs.declared.dates.Sought.{Sought}
-use Rattle.band.specs.Search.{totIn, isSought, listed}
+use Rattle.band.specs.Search.{isSought, listed, MaySearch}
+
+-- ---- a date's entries lie in the days
+
+pub fits : {settings days : List ℕ} {category date dates : ℕ} → MaySearch settings days category → date < datesOf settings → dates ≡ datesOf settings → RowsFit dates category date (length days)
+fits {settings} {days} {category} {date} may a-date is = rows-fit settings category date (length days) (may .opened) (may .room) (may .a-category) a-date is
 
 -- ---- the tests of a date, in the code's order
 
-module _ (settings cells : List ℕ) (column : Column) (sought : Sought) (d : ℕ) where
-  pub other-type : {t : ℕ} → t ≡ dayTypeOf settings d → (t ≡ sought .«day_type» → ⊥) → false ≡ isSought settings cells column sought d
+module _ (settings days : List ℕ) (category : ℕ) (sought : Sought) (d : ℕ) where
+  pub other-type : {t : ℕ} → t ≡ dayTypeOf settings d → (t ≡ sought .«day_type» → ⊥) → false ≡ isSought settings days category sought d
   unfolding inBand
-  other-type e other = rw (← e, ne-eqb _ _ other) (cases (runIn column cells d) (λ q. rw q) (λ q. rw q))
+  other-type e other = rw (← e, ne-eqb _ _ other) (cases (isRunDay (datesOf settings) category days d) (λ q. rw q) (λ q. rw q))
 
-  pub not-run : runIn column cells d ≡ false → false ≡ isSought settings cells column sought d
+  pub not-run : {dates : ℕ} → dates ≡ datesOf settings → isRunDay dates category days d ≡ false → false ≡ isSought settings days category sought d
   unfolding inBand
-  not-run e = rw e
+  not-run is e = rw (rw is at e)
 
-  module _ {t : ℕ} {day : DayFigures} (type : t ≡ dayTypeOf settings d) (same : t ≡ sought .«day_type») (run : runIn column cells d ≡ true) (figured : DayFigured column noPeriod cells d day) where
-    tot-is : day .tot ≡ totIn column cells d
-    tot-is = ap (λ x. x .tot) (figured .is)
+  module _ {t dates tot : ℕ} (type : t ≡ dayTypeOf settings d) (same : t ≡ sought .«day_type») (is : dates ≡ datesOf settings)
+      (ran : isRunDay dates category days d ≡ true) (kept : tot ≡ energyOf (getD days (dayIndex dates category totRow d) 0)) where
+    run : isRunDay (datesOf settings) category days d ≡ true
+    run = rw is at ran
 
-    pub below-least : day .tot < sought .least → false ≡ isSought settings cells column sought d
+    tot-is : tot ≡ totalsFor settings days d category .tot
+    unfolding totalsFor totalsOf entriesAt
+    tot-is = kept ∙ rw is
+
+    pub below-least : tot < sought .least → false ≡ isSought settings days category sought d
     unfolding inBand
     below-least low = rw (run, ← type, eq-eqb _ _ same, ← tot-is, lt-leb _ _ low)
 
-    pub most-decides : sought .least ≤ day .tot → leb (day .tot) (sought .most) ≡ isSought settings cells column sought d
+    pub most-decides : sought .least ≤ tot → leb tot (sought .most) ≡ isSought settings days category sought d
     unfolding inBand
     most-decides enough = rw (run, ← type, eq-eqb _ _ same, ← tot-is, le-leb _ _ enough)
 

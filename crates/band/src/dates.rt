@@ -1,17 +1,17 @@
-// The walk over the store's dates.
-use reads::periods::NO_PERIOD;
-use reads::periods::day_figures;
+// The walk over the store's dates, by the days.
+use entries::day::energy_of;
 use settings::category::day_type;
 use settings::header::date_count;
-use store::column::Column;
-use store::column::ran_on;
+use store::access::entry_at;
+use store::days::TOT;
+use store::days::day_index;
+use store::days::is_run_day;
 ghost use mathlib.Core.Path.{_≡_};
-ghost use mathlib.Core.Bool.{true, cond};
+ghost use mathlib.Core.Bool.{cond};
 ghost use Prim.Native.Nat.{_+_, _<_};
 ghost use lib.ListN.{length, set};
-ghost use Rattle.ledger.specs.Store.{settingsReady, datesOf};
+ghost use Rattle.ledger.specs.Store.{datesOf};
 ghost use Rattle.ledger.specs.Table.{chosenBelow};
-ghost use Rattle.store.specs.Column.{Reaches};
 ghost use Rattle.band.specs.Search.{isSought, listed, MaySearch};
 
 // TOT from `least` to `most`, both included, on dates of a day type.
@@ -21,21 +21,22 @@ pub struct Sought {
     pub most: u64,
 }
 
-fn in_band(settings: &[u8], cells: &[u64], column: Column, sought: Sought, date: u64) -> bool
-    requires { ⌜ (settingsReady (now settings) ≡ true) × (date < datesOf (now settings)) × Reaches (now cells) column date ⌝ }
-    ensures { λ r. ⌜ r ≡ isSought (now (settings .entry)) (now (cells .entry)) column sought date ⌝ }
+fn in_band(settings: &[u8], days: &[u64], category: u64, sought: Sought, date: u64) -> bool
+    requires { ⌜ MaySearch (now settings) (now days) category × (date < datesOf (now settings)) ⌝ }
+    ensures { λ r. ⌜ r ≡ isSought (now (settings .entry)) (now (days .entry)) category sought date ⌝ }
 {
     if day_type(settings, date) != sought.day_type {
         return false;
     }
-    if !ran_on(cells, column, date) {
+    let dates = date_count(settings);
+    if !is_run_day(dates, category, days, date) {
         return false;
     }
-    let day = day_figures(cells, column, NO_PERIOD, date);
-    if day.tot < sought.least {
+    let tot = energy_of(entry_at(days, day_index(dates, category, TOT, date)));
+    if tot < sought.least {
         return false;
     }
-    day.tot <= sought.most
+    tot <= sought.most
 }
 
 // A date in the band goes behind the first `found`, where the list has room; the answer is how many there are then.
@@ -57,20 +58,20 @@ fn with_date(dates: &mut [u64], found: u64, matches: bool, date: u64) -> u64
 // The answer is how many dates there are.
 pub fn list_dates(
     settings: &[u8],
-    cells: &[u64],
-    column: Column,
+    days: &[u64],
+    category: u64,
     sought: Sought,
     dates: &mut [u64],
 ) -> u64
-    requires { ⌜ MaySearch (now settings) (now cells) column ⌝ }
-    ensures { λ r. ⌜ r ≡ length (chosenBelow (datesOf (now (settings .entry))) (isSought (now (settings .entry)) (now (cells .entry)) column sought)) ⌝ }
-    ensures { λ r. ⌜ now (dates .exit) ≡ listed (chosenBelow (datesOf (now (settings .entry))) (isSought (now (settings .entry)) (now (cells .entry)) column sought)) (now (dates .entry)) ⌝ }
+    requires { ⌜ MaySearch (now settings) (now days) category ⌝ }
+    ensures { λ r. ⌜ r ≡ length (chosenBelow (datesOf (now (settings .entry))) (isSought (now (settings .entry)) (now (days .entry)) category sought)) ⌝ }
+    ensures { λ r. ⌜ now (dates .exit) ≡ listed (chosenBelow (datesOf (now (settings .entry))) (isSought (now (settings .entry)) (now (days .entry)) category sought)) (now (dates .entry)) ⌝ }
 {
     let count = date_count(settings);
     let mut found: u64 = 0;
     let mut date: u64 = 0;
     while date < count {
-        let matches = in_band(settings, cells, column, sought, date);
+        let matches = in_band(settings, days, category, sought, date);
         found = with_date(dates, found, matches, date);
         date += 1;
     }

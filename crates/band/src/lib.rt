@@ -6,7 +6,6 @@ use crate::checks::search_number;
 use crate::dates::Sought;
 use crate::dates::list_dates;
 use metering::range::day_type_valid;
-use store::column::column_of;
 use store::outcome::Band;
 use store::outcome::BandOutcome;
 ghost use mathlib.Core.Path.{_≡_};
@@ -27,17 +26,17 @@ fn smaller(a: u64, b: u64) -> u64
 
 pub fn search_band(
     settings: &[u8],
-    cells: &[u64],
+    days: &[u64],
     category: u64,
     day_type: u64,
     least: u64,
     most: u64,
     dates: &mut [u64],
 ) -> BandOutcome
-    ensures answers { λ r. ⌜ bandAnswer r (now (dates .exit)) ≡ answer (bandVerdict (now (settings .entry)) (now (cells .entry)) (bandCall category «day_type» least most (now (dates .entry)))) (bandIs (bandFor (now (settings .entry)) (now (cells .entry)) (bandCall category «day_type» least most (now (dates .entry))))) ⌝ }
-    ensures dates_are { λ r. ⌜ now (dates .exit) ≡ left (bandVerdict (now (settings .entry)) (now (cells .entry)) (bandCall category «day_type» least most (now (dates .entry)))) (now (dates .entry)) (overwritten (bandFor (now (settings .entry)) (now (cells .entry)) (bandCall category «day_type» least most (now (dates .entry))) .dates) (now (dates .entry))) ⌝ }
+    ensures answers { λ r. ⌜ bandAnswer r (now (dates .exit)) ≡ answer (bandVerdict (now (settings .entry)) (now (days .entry)) (bandCall category «day_type» least most (now (dates .entry)))) (bandIs (bandFor (now (settings .entry)) (now (days .entry)) (bandCall category «day_type» least most (now (dates .entry))))) ⌝ }
+    ensures dates_are { λ r. ⌜ now (dates .exit) ≡ left (bandVerdict (now (settings .entry)) (now (days .entry)) (bandCall category «day_type» least most (now (dates .entry)))) (now (dates .entry)) (overwritten (bandFor (now (settings .entry)) (now (days .entry)) (bandCall category «day_type» least most (now (dates .entry))) .dates) (now (dates .entry))) ⌝ }
 {
-    let number = search_number(settings, cells, category);
+    let number = search_number(settings, days, category);
     if number != 0 {
         return BandOutcome::Refused { number, place: 0 };
     }
@@ -54,13 +53,12 @@ pub fn search_band(
         });
     }
     let room = dates.len() as u64;
-    let column = column_of(settings, category);
     let sought = Sought {
         day_type,
         least,
         most,
     };
-    let found = list_dates(settings, cells, column, sought, dates);
+    let found = list_dates(settings, days, category, sought, dates);
     BandOutcome::Band(Band {
         written: smaller(room, found),
         found,

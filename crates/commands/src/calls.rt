@@ -18,7 +18,7 @@ ghost use lib.ListN.{length, take, getD};
 ghost use Rattle.input.specs.Form.{Command};
 ghost use Rattle.input.specs.Operands.{bodyOf, operand, runWidths, totalsWidths, cellWidths};
 ghost use Rattle.ledger.specs.Ledger.{answer, accepted, moved, totalsAre, cellIs, left};
-ghost use Rattle.ledger.specs.Calls.{registrationVerdict, registeredMeters, receptionVerdict, receivedReadings, runVerdict, ranFrom, totalsVerdict, totalsFor, cellVerdict, cellFor};
+ghost use Rattle.ledger.specs.Calls.{registrationVerdict, registeredMeters, receptionVerdict, receivedReadings, runVerdict, ranFrom, dayVerdict, totalsFor, cellVerdict, cellFor};
 ghost use Rattle.ledger.specs.Engine.{callAnswer, leaves};
 ghost use Rattle.output.specs.Text.{Appended};
 ghost use Rattle.output.specs.Lines.{answerLine};
@@ -170,12 +170,12 @@ fn run(
     append_run(out, at, outcome)
 }
 
-fn totals(command: &[u8], settings: &[u8], cells: &[u64], out: &mut [u8], at: usize) -> usize
+fn totals(command: &[u8], settings: &[u8], days: &[u64], out: &mut [u8], at: usize) -> usize
     requires { ⌜ (4 ≤ length (now command)) × (at + 300 ≤ length (now out)) ⌝ }
-    ensures { λ r. ⌜ Appended (now (out .entry)) at (now (out .exit)) r (answerLine 23 (answer (totalsVerdict (now (settings .entry)) (now (cells .entry)) (operand totalsWidths 0 (now (command .entry))) (operand totalsWidths 1 (now (command .entry)))) (totalsAre (totalsFor (now (settings .entry)) (now (cells .entry)) (operand totalsWidths 0 (now (command .entry))) (operand totalsWidths 1 (now (command .entry))))))) ⌝ }
+    ensures { λ r. ⌜ Appended (now (out .entry)) at (now (out .exit)) r (answerLine 23 (answer (dayVerdict (now (settings .entry)) (now (days .entry)) (operand totalsWidths 0 (now (command .entry))) (operand totalsWidths 1 (now (command .entry)))) (totalsAre (totalsFor (now (settings .entry)) (now (days .entry)) (operand totalsWidths 0 (now (command .entry))) (operand totalsWidths 1 (now (command .entry))))))) ⌝ }
     ensures { λ r. ⌜ r ≤ at + 300 ⌝ }
 {
-    let outcome = engine::read_totals(settings, cells, two(command, 1), one(command, 3));
+    let outcome = engine::read_totals(settings, days, two(command, 1), one(command, 3));
     append_totals(out, at, outcome)
 }
 
@@ -225,7 +225,7 @@ pub fn ask(
             out,
             at,
         ),
-        0x17 => totals(command, settings, &cells[..], out, at),
+        0x17 => totals(command, settings, &days[..], out, at),
         _ => cell(command, settings, &cells[..], out, at),
     }
 }

@@ -16,7 +16,7 @@ use Rattle.ledger.specs.Checks.{Verdict, orElse, firstNumber, callNumber, regis
 use Rattle.ledger.specs.Ledger.{Ledger, start, Call, register, receive, run, readTotals, readCell, readNet, searchBand, fillHole, readCoverage, refused, answer, accepted, left, settingsShort, metersShort, anyShort, Lengths, ledgerAnswer, ledgerAfter, Opening}
 use Rattle.ledger.specs.Store.{word, metersOf, settingsReady}
 use Rattle.ledger.specs.Ready.{ready, header-there}
-use Rattle.ledger.specs.Calls.{metersUnready, runUnready, cellsUnready, daysUnready, openingVerdict, registrationVerdict, receptionVerdict, runVerdict, totalsVerdict, cellVerdict, netVerdict, bandVerdict, fillVerdict, coverageVerdict}
+use Rattle.ledger.specs.Calls.{metersUnready, runUnready, cellsUnready, daysUnready, openingVerdict, registrationVerdict, receptionVerdict, runVerdict, dayVerdict, cellVerdict, netVerdict, bandVerdict, fillVerdict}
 use Rattle.ledger.specs.Engine.{Parts, callAnswer, leaves, openedParts, afterOpening, cut, restored, partsAfter, cutLengths, lengthsOf, AreBytes, BodyOfBytes}
 use Rattle.ledger.proofs.Verdicts.{left-some}
 use Rattle.ledger.proofs.Open.{opening-accepted}
@@ -37,7 +37,7 @@ use Rattle.conversation.proofs.Simulation.{Simulates, same-output}
 module _ (p : Parts) (unready : settingsReady (p .settings) ≡ false) where
   -- a call on settings that are not ready answers 1
   unready-answer : (c : Call) → callAnswer p c ≡ refused 1 0
-  unfolding callAnswer answer metersUnready runUnready cellsUnready daysUnready registrationVerdict receptionVerdict runVerdict totalsVerdict cellVerdict netVerdict bandVerdict fillVerdict coverageVerdict registrationCheck receptionCheck runCheck readCheck netCheck bandCheck fillCheck callNumber firstNumber orElse
+  unfolding callAnswer answer metersUnready runUnready cellsUnready daysUnready registrationVerdict receptionVerdict runVerdict dayVerdict cellVerdict netVerdict bandVerdict fillVerdict registrationCheck receptionCheck runCheck readCheck netCheck bandCheck fillCheck callNumber firstNumber orElse
   unready-answer (register a) = rw unready
   unready-answer (receive a) = rw unready
   unready-answer (run d) = rw unready

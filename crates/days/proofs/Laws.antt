@@ -1,25 +1,28 @@
--- A row counted cell by cell, sums by wrapping differences, and days put category by category.
+-- A row counted and summed cell by cell, sums by wrapping differences, and days put category by category.
 use Prim.Native.Nat.{ℕ, _+_, _-_, _*_, _%_, _≤_, _<_, min}
 use mathlib.Core.Path.{_≡_, refl, sym, ap, _∙_}
-use mathlib.Core.Bool.{true}
 use mathlib.Core.List.{List, append-assoc}
 use native.Mathlib.Omega.{arith}
 use native.Mathlib.Numerals.{add-one}
 use native.Mathlib.Nat.{suc-mul, mul-le-mul-right}
 use lib.ListN.{length, getD, take, drop, set}
 use lib.Seq.{sets-eq, drop-drop}
-use borrow.Author.Tests.{eq-eqb, ne-eqb, leb-true}
-use Rattle.metering.specs.Sum.{sumBelow-zero, sumBelow-suc}
+use borrow.Author.Tests.{eq-eqb, ne-eqb}
+use Rattle.metering.specs.Sum.{sumBelow, sumBelow-zero, sumBelow-suc}
 use Rattle.ledger.specs.Method.{Cell, isFresh, isBlank, freshAmong, blanksAmong, originOf, oldestAmong}
 use Rattle.ledger.specs.Table.{tabulate}
-use Rattle.ledger.specs.Sizes.{daysLength}
-use Rattle.ledger.specs.Store.{categoriesOf, datesOf, periodsOf, rowLength, daysReady, cellOfEntry, dayIndex, sumIndex, dayEntry, dayEntryOf, countsOf}
-use Rattle.ledger.specs.Calls.{wrappingSum, wrappingDifference, raised, raisedSums, putDay, keptDays}
+use Rattle.ledger.specs.Store.{durationOf, categoriesOf, datesOf, periodsOf, rowLength, categoryOf, cellOfEntry, dayRow, sumRow, totRow, offRow, dayIndex, DayEntries, dayEntry, dayEntryOf, totEntry, totAmong, offAmong, dayEntriesOf, countsOf}
+use Rattle.ledger.specs.Calls.{wrappingSum, wrappingDifference, raised, raisedSums, placed, putDay, entriesFor, keptDays}
 use Rattle.entries.specs.Row.{spliced}
+use Rattle.entries.specs.Sums.{Summed}
 use Rattle.entries.proofs.RowLaws.{part-at}
-use Rattle.ledger.proofs.Lists.{length-tabulate, tabulate-ext, part-length}
+use Rattle.ledger.proofs.Lists.{length-tabulate, tabulate-ext, part-length, sumBelow-cong}
 use Rattle.ledger.proofs.Days.{fresh-most, blanks-most, oldest-most}
-use Rattle.ledger.proofs.Kept.{day-cong}
+use Rattle.ledger.proofs.Kept.{for-cong}
+use Rattle.store.specs.Days.{RowsFit}
+use Rattle.days.specs.declared.window.Stretch.{Stretch}
+use Rattle.days.specs.Window.{entriesIn, OffPeak}
+use Rattle.days.proofs.WindowLaws.{sum-of-stretch}
 
 -- ---- a row so far
 
@@ -76,33 +79,36 @@ unfolding wrappingDifference wrappingSum
 difference-is a b r ha hb hr e = omega arith
 
 -- the sums of a category's dates from one on lie in its rows
-pub sums-fit : (dates category date n L first : ℕ) → date < dates → category * (2 * dates) + 2 * dates ≤ L → first ≡ sumIndex dates category date → n ≤ dates - date → first + n ≤ L
-unfolding sumIndex
-sums-fit dates category date n L first h room is few = omega arith
+pub sums-fit : (dates category date n L first : ℕ) → RowsFit dates category date L → first ≡ dayIndex dates category sumRow date → n ≤ dates - date → first + n ≤ L
+unfolding dayIndex
+sums-fit dates category date n L first fit is few = let room = fit .room in let h = fit .a-date in omega arith
 
 -- week first, then year
-pub sums-are : (dates category date old new first week year by more : ℕ) (days days′ days″ : List ℕ) → first ≡ sumIndex dates category date →
+pub sums-are : (dates category date old new first week year by more : ℕ) (days days′ days″ : List ℕ) → first ≡ dayIndex dates category sumRow date →
     week ≡ min 7 (dates - date) → by ≡ wrappingDifference new old → days′ ≡ raised by week first days →
     year ≡ min 365 (dates - date) → more ≡ wrappingDifference (4294967296 * new) (4294967296 * old) → days″ ≡ raised more year first days′ →
     days″ ≡ raisedSums dates category date old new days
 unfolding raisedSums
 sums-are dates category date old new first week year by more days days′ days″ at w b e y m f = f ∙ rw (e, at, w, b, y, m)
 
--- ---- a day put
+-- ---- a date's entries put
 
-module _ (dates category date entry at old new : ℕ) (days placed : List ℕ) (place : at ≡ dayIndex dates category date) (was : old ≡ countsOf (getD days at 0))
-    (is : new ≡ countsOf entry) (put : placed ≡ set days at entry) where
-  pub put-same : old ≡ new → placed ≡ putDay dates category date entry days
+-- one after the other
+pub placed-is : (dates category date day tot off : ℕ) (entries : DayEntries) (days one two three : List ℕ) → day ≡ dayIndex dates category dayRow date → one ≡ set days day (entries .day) →
+    tot ≡ dayIndex dates category totRow date → two ≡ set one tot (entries .tot) → off ≡ dayIndex dates category offRow date → three ≡ set two off (entries .off) →
+    three ≡ placed dates category date entries days
+unfolding placed
+placed-is dates category date day tot off entries days one two three d a t b o c = c ∙ rw (b, a, d, t, o)
+
+module _ (dates category date old new : ℕ) (entries : DayEntries) (days put : List ℕ) (was : old ≡ countsOf (getD days (dayIndex dates category dayRow date) 0))
+    (is : new ≡ countsOf (entries .day)) (done : put ≡ placed dates category date entries days) where
+  pub put-same : old ≡ new → put ≡ putDay dates category date entries days
   unfolding putDay
-  put-same same = put ∙ rw (← place, ← was, ← is, eq-eqb old new same)
+  put-same same = done ∙ rw (← was, ← is, eq-eqb old new same)
 
-  pub put-other : (days′ : List ℕ) → (old ≡ new → ⊥) → days′ ≡ raisedSums dates category date old new placed → days′ ≡ putDay dates category date entry days
+  pub put-other : (days′ : List ℕ) → (old ≡ new → ⊥) → days′ ≡ raisedSums dates category date old new put → days′ ≡ putDay dates category date entries days
   unfolding putDay
-  put-other days′ other e = e ∙ rw (put, ← place, ← was, ← is, ne-eqb old new other)
-
-pub day-fits : (dates category date L at : ℕ) → date < dates → category * (2 * dates) + 2 * dates ≤ L → at ≡ dayIndex dates category date → at < L
-unfolding dayIndex
-day-fits dates category date L at h room is = omega arith
+  put-other days′ other e = e ∙ rw (done, ← was, ← is, ne-eqb old new other)
 
 pub counts-small : (entry r : ℕ) → r ≡ countsOf entry → r < 4294967296
 unfolding countsOf
@@ -110,28 +116,49 @@ counts-small entry r is = omega arith
 
 -- ---- a date's days, category by category
 
--- a category's stretch lies in the row, and its days in the part
+-- a category's stretch lies in the row
 pub stretch-fits : (s row : List ℕ) (category : ℕ) → length row ≡ rowLength s → category < categoriesOf s → category * periodsOf s + periodsOf s ≤ length row
 unfolding rowLength
 stretch-fits s row category long h = omega (arith, long, mul-le-mul-right (periodsOf s) h)
 
-pub days-fit : (s days : List ℕ) (category : ℕ) → daysReady s days ≡ true → category < categoriesOf s → category * (2 * datesOf s) + 2 * datesOf s ≤ length days
-unfolding daysReady daysLength
-days-fit s days category ready h = omega (arith, leb-true (categoriesOf s * (2 * datesOf s)) (length days) ready, mul-le-mul-right (2 * datesOf s) h)
-
 -- a turn: the days of one category more
-pub kept-next : (T P date c at w e : ℕ) (row days₀ days days′ : List ℕ) → at ≡ c * P → w ≡ P → c * P + P ≤ length row →
-    e ≡ dayEntryOf (length (take w (drop at row))) (λ p. cellOfEntry (getD (take w (drop at row)) p 0)) →
-    days ≡ keptDays T P date row c days₀ → days′ ≡ putDay T c date e days → days′ ≡ keptDays T P date row (c + 1) days₀
+pub kept-next : (s : List ℕ) (date c at w : ℕ) (e : DayEntries) (row days₀ days days′ : List ℕ) → at ≡ c * periodsOf s → w ≡ periodsOf s → c * periodsOf s + periodsOf s ≤ length row →
+    e ≡ entriesFor s c (λ p. cellOfEntry (getD (take w (drop at row)) p 0)) →
+    days ≡ keptDays s date row c days₀ → days′ ≡ putDay (datesOf s) c date e days → days′ ≡ keptDays s date row (c + 1) days₀
 unfolding keptDays
-kept-next T P date c at w e row days₀ days days′ start width fits entry so put =
+kept-next s date c at w e row days₀ days days′ start width fits entry so put =
     put
-    ∙ rw (so, entry, start, width, add-one c, part-length row (c * P) P fits)
-    (ap (λ (x : ℕ). putDay T c date x (keptDays T P date row c days₀)) (day-cong P _ (λ p. cellOfEntry (getD row (c * P + p) 0)) (λ k l. ap cellOfEntry (part-at row (c * P) P k l))))
+    ∙ rw (so, entry, start, width, add-one c)
+    (ap (λ (x : DayEntries). putDay (datesOf s) c date x (keptDays s date row c days₀))
+    (for-cong s c _ (λ p. cellOfEntry (getD row (c * periodsOf s + p) 0)) (λ k l. ap cellOfEntry (part-at row (c * periodsOf s) (periodsOf s) k l))))
 
-pub none-kept : (T P date : ℕ) (row days : List ℕ) → days ≡ keptDays T P date row 0 days
+pub none-kept : (s : List ℕ) (date : ℕ) (row days : List ℕ) → days ≡ keptDays s date row 0 days
 unfolding keptDays
-none-kept T P date row days = refl
+none-kept s date row days = refl
 
 pub next-start : (c P at periods : ℕ) → at ≡ c * P → periods ≡ P → at + periods ≡ (c + 1) * P
 next-start c P at periods start is = rw (start, is, add-one c) (sym (suc-mul c P))
+
+-- ---- a category's entries
+
+-- the window's periods are those that the definition sums for OFF
+pub entries-are : (s : List ℕ) (c duration number : ℕ) (window : Stretch) (cells : ℕ → Cell) → duration ≡ durationOf s → number ≡ categoryOf s c .window → OffPeak duration number window →
+    entriesIn window (periodsOf s) cells ≡ entriesFor s c cells
+unfolding entriesFor dayEntriesOf offAmong
+entries-are s c duration number window cells d n peak = rw (peak .lies, d, n)
+
+-- TOT and OFF of a row
+pub entries-summed : (window : Stretch) (row : List ℕ) (w first day tot off value : ℕ) → window .first + window .count ≤ length row → first ≡ window .first → w ≡ window .count →
+    day ≡ dayEntryOf (length row) (λ p. cellOfEntry (getD row p 0)) →
+    Summed (length row) 4294967295 (λ p. cellOfEntry (getD row p 0) .value) value → tot ≡ totEntry value →
+    Summed (length (take w (drop first row))) 4294967295 (λ p. cellOfEntry (getD (take w (drop first row)) p 0) .value) off →
+    record { day = day; tot = tot; off = off } ≡ entriesIn window (length row) (λ p. cellOfEntry (getD row p 0))
+unfolding totAmong
+entries-summed window row w first day tot off value within start width d v t o =
+    let f : ℕ → ℕ = λ p. cellOfEntry (getD row p 0) .value in
+    let summed : off ≡ sumBelow (window .count) (λ i. f (window .first + i)) =
+    o .is ∙ rw (start, width, part-length row (window .first) (window .count) within)
+    (sumBelow-cong (window .count) _ (λ i. f (window .first + i)) (λ k l. ap (λ (x : ℕ). cellOfEntry x .value) (part-at row (window .first) (window .count) k l))) in
+    let tots : tot ≡ totEntry (sumBelow (length row) f) = t ∙ ap totEntry (v .is) in
+    let offs = summed ∙ sum-of-stretch window (length row) f within in
+    λ i. record { day = d i; tot = tots i; off = offs i }

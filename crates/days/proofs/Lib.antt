@@ -1,2 +1,3 @@
--- Laws that the proofs of days share.
+-- Laws that the proofs of the days share.
 pub mod Laws
+pub mod WindowLaws

@@ -3,3 +3,4 @@ pub mod keep;
 mod put;
 mod row;
 mod sums;
+pub mod window;

@@ -1,15 +1,20 @@
-// A day's new entry, and the sums in which its counts are.
+// A date's new entries, and the sums in which its counts are.
 use crate::sums::raise;
 use entries::day::day_counts;
 use std::num::wrapping_sub_u64;
 use store::access::entry_at;
 use store::access::put_entry;
+use store::days::DAY;
+use store::days::DayEntries;
+use store::days::OFF;
+use store::days::SUMS;
+use store::days::TOT;
 use store::days::day_index;
-use store::days::sum_index;
 ghost use mathlib.Core.Path.{_≡_};
-ghost use Prim.Native.Nat.{_+_, _*_, _<_, _≤_, min};
+ghost use Prim.Native.Nat.{_<_, min};
 ghost use lib.ListN.{length};
-ghost use Rattle.ledger.specs.Calls.{raisedSums, putDay};
+ghost use Rattle.ledger.specs.Calls.{raisedSums, placed, putDay};
+ghost use Rattle.store.specs.Days.{entriesMeant, RowsFit};
 
 // How many of the dates still to come are in a window.
 fn reached(window: u64, dates: u64) -> u64
@@ -23,11 +28,10 @@ fn reached(window: u64, dates: u64) -> u64
 
 // Week and year, by the difference of the counts.
 fn raise_sums(days: &mut [u64], dates: u64, category: u64, date: u64, old: u64, new: u64)
-    requires { ⌜ (dates ≤ 800) × (category < 64) × (date < dates) × (category * (2 * dates) + 2 * dates ≤ length (now days)) ⌝ }
-    requires { ⌜ (old < 4294967296) × (new < 4294967296) ⌝ }
+    requires { ⌜ RowsFit dates category date (length (now days)) × (old < 4294967296) × (new < 4294967296) ⌝ }
     ensures { λ r. ⌜ now (days .exit) ≡ raisedSums dates category date old new (now (days .entry)) ⌝ }
 {
-    let first = sum_index(dates, category, date);
+    let first = day_index(dates, category, SUMS, date);
     let left = dates - date;
     raise(days, first, reached(7, left), wrapping_sub_u64(new, old));
     raise(
@@ -38,14 +42,22 @@ fn raise_sums(days: &mut [u64], dates: u64, category: u64, date: u64, old: u64, 
     );
 }
 
-pub fn put_day(days: &mut [u64], dates: u64, category: u64, date: u64, entry: u64)
-    requires { ⌜ (dates ≤ 800) × (category < 64) × (date < dates) × (category * (2 * dates) + 2 * dates ≤ length (now days)) ⌝ }
-    ensures { λ r. ⌜ now (days .exit) ≡ putDay dates category date entry (now (days .entry)) ⌝ }
+fn place(days: &mut [u64], dates: u64, category: u64, date: u64, entries: DayEntries)
+    requires { ⌜ RowsFit dates category date (length (now days)) ⌝ }
+    ensures { λ r. ⌜ now (days .exit) ≡ placed dates category date (entriesMeant entries) (now (days .entry)) ⌝ }
 {
-    let at = day_index(dates, category, date);
-    let old = day_counts(entry_at(&days[..], at));
-    let new = day_counts(entry);
-    put_entry(days, at, entry);
+    put_entry(days, day_index(dates, category, DAY, date), entries.day);
+    put_entry(days, day_index(dates, category, TOT, date), entries.tot);
+    put_entry(days, day_index(dates, category, OFF, date), entries.off);
+}
+
+pub fn put_day(days: &mut [u64], dates: u64, category: u64, date: u64, entries: DayEntries)
+    requires { ⌜ RowsFit dates category date (length (now days)) ⌝ }
+    ensures { λ r. ⌜ now (days .exit) ≡ putDay dates category date (entriesMeant entries) (now (days .entry)) ⌝ }
+{
+    let old = day_counts(entry_at(&days[..], day_index(dates, category, DAY, date)));
+    let new = day_counts(entries.day);
+    place(days, dates, category, date, entries);
     if old == new {
         return;
     }

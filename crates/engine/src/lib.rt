@@ -1,6 +1,7 @@
 // The engine's face: all that its users call and are answered with. No call has a `requires`; each contract stands with its call.
 pub use band::search_band;
-pub use coverage::read_coverage;
+pub use day_reads::read_coverage;
+pub use day_reads::read_totals;
 pub use entries::cell::Cell;
 pub use entries::cell::Flag;
 pub use entries::cell::letter;
@@ -9,7 +10,6 @@ pub use fill::fill_opted_out;
 pub use net::read_net;
 pub use opening::open;
 pub use reads::read_cell;
-pub use reads::read_totals;
 pub use reception::receive;
 pub use registration::register;
 pub use run::run;

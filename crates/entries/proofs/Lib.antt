@@ -1,3 +1,4 @@
--- Laws of rows of entries and of days that several crates cite.
+-- Laws of rows of entries, of days and of sums that several crates cite.
 pub mod RowLaws
 pub mod DayLaws
+pub mod SumLaws

@@ -2,3 +2,4 @@
 pub mod Cell
 pub mod Reading
 pub mod Row
+pub mod Sums

@@ -21,8 +21,8 @@ use Rattle.ledger.proofs.Fills.{before-cong, reaching-zero, reaching-next, none
 use Rattle.entries.proofs.RowLaws.{filling-below}
 use Rattle.store.specs.declared.column.Column.{Column}
 use Rattle.store.specs.Column.{Reaches}
-use Rattle.reads.specs.Sums.{Figure, Summed}
-use Rattle.reads.specs.Figures.{valueAfter}
+use Rattle.entries.specs.Sums.{Figure, Summed}
+use Rattle.store.specs.Column.{valueAfter}
 use Rattle.fill.specs.Sharing.{weightIn, MayShare, Divided, Tells, MaySearch, handedOut, MayHandOut}
 
 -- an advance and a value have 32 bits each

@@ -11,7 +11,7 @@ use Rattle.ledger.specs.Fill.{weightBy, wholePart, remainderOf, leftOver}
 use Rattle.ledger.specs.Threshold.{reaching, equalTo}
 use Rattle.store.specs.declared.column.Column.{Column}
 use Rattle.store.specs.Column.{Reaches}
-use Rattle.reads.specs.Figures.{valueAfter}
+use Rattle.store.specs.Column.{valueAfter}
 
 -- what the period after k others counts for
 abbrev pub weightIn : Column → List ℕ → ℕ → List ℕ → ℕ → ℕ

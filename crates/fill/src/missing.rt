@@ -7,8 +7,8 @@ ghost use mathlib.Core.Bool.{cond};
 ghost use lib.Dec.{eqb};
 ghost use lib.ListN.{length};
 ghost use Rattle.store.specs.Column.{Reaches};
-ghost use Rattle.reads.specs.Sums.{Figure, Summed};
-ghost use Rattle.reads.specs.Figures.{valueAfter};
+ghost use Rattle.entries.specs.Sums.{Figure, Summed};
+ghost use Rattle.store.specs.Column.{valueAfter};
 ghost use Rattle.fill.specs.Sharing.{weightIn};
 
 // The value of the period that comes after `k` others where its mark says that it is missing, else 0.

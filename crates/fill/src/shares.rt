@@ -11,7 +11,7 @@ ghost use lib.ListN.{length};
 ghost use Rattle.ledger.specs.Fill.{filledValues};
 ghost use Rattle.ledger.specs.Table.{filling};
 ghost use Rattle.ledger.specs.Calls.{overwritten};
-ghost use Rattle.reads.specs.Sums.{Figure};
+ghost use Rattle.entries.specs.Sums.{Figure};
 ghost use Rattle.fill.specs.Sharing.{weightIn, MayShare, MayHandOut, handedOut};
 
 // One for a remainder above the threshold, and for one equal to it as long as there is one to spare.

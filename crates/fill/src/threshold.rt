@@ -5,7 +5,7 @@ ghost use mathlib.Core.Bool.{cond};
 ghost use lib.Dec.{leb};
 ghost use lib.ListN.{length, getD};
 ghost use Rattle.ledger.specs.Threshold.{reaching};
-ghost use Rattle.reads.specs.Sums.{Figure};
+ghost use Rattle.entries.specs.Sums.{Figure};
 ghost use Rattle.fill.specs.Sharing.{MaySearch, Tells};
 
 fn one_if(remainder: u64, least: u64) -> u64

@@ -11,25 +11,21 @@ use lib.IntN.{ℤ}
 use lib.ListN.{length, getD}
 use borrow.Table.Steps.{cases}
 use borrow.Author.Tests.{eqb-true, not-false}
-use Rattle.metering.specs.Sum.{sumBelow}
 use Rattle.metering.specs.Average.{average, annual}
 use Rattle.metering.specs.Range.{dayTypeValid}
-use Rattle.metering.specs.Calendar.{liesWithin, windowStart, windowEnd}
-use Rattle.ledger.specs.Method.{Category, Flag, A, D, E, N, letterOf, Cell, overRunDates, totOn, offOn, peakOn, totalsOn}
+use Rattle.ledger.specs.Method.{Category, Flag, A, D, E, N, letterOf}
 use Rattle.ledger.specs.Opening.{Opening, categories, dates}
 use Rattle.ledger.specs.Table.{tabulate}
-use Rattle.ledger.specs.Checks.{Registration, RegistrationCall, ReceptionCall, Verdict, firstFailed, orElse, sizesValid, openingCheck, bodyCheck, inForceCheck, receptionCheck, runCheck, readCheck, bandCheck, NetCall}
+use Rattle.ledger.specs.Checks.{Registration, RegistrationCall, ReceptionCall, Verdict, firstFailed, orElse, sizesValid, openingCheck, bodyCheck, inForceCheck, receptionCheck, runCheck, bandCheck, NetCall}
 use Rattle.ledger.specs.Band.{BandCall, bandOn, bandDates}
 use Rattle.ledger.specs.Fill.{FillCall}
 use Rattle.ledger.specs.Ledger.{Answer, answer, accepted, moved, totalsAre, cellIs, netIs, bandIs, filledAre, coverageIs}
-use Rattle.ledger.specs.Store.{categoriesOf, datesOf, periodsOf, rowLength, dayTypeOf, settingsReady, readingsReady, cellsReady, daysReady, cellOfEntry, cellIndex, isRunAt, coverageOf}
-use Rattle.ledger.specs.Calls.{Published, asPublished, Placing, publish, openingVerdict, registrationVerdict, receptionVerdict, runUnready, runVerdict, rowAt, carriedEntry, comparedEntry, differing, follows, movedInRow, movedByRow, followRow, inheritedAfter, carryOn, settled, newRow, ranFrom, cellsUnready, totalsVerdict, cellVerdict, cellFor, totalsFor, netVerdict, netFor, bandVerdict, bandFor, fillVerdict, fillFor, coverageVerdict, coverageFor}
-use Rattle.ledger.specs.Ready.{Ready, ready, periods-bound, row-bounds}
+use Rattle.ledger.specs.Store.{categoriesOf, datesOf, periodsOf, rowLength, dayTypeOf, categoryOf, settingsReady, readingsReady, cellsReady, daysReady, cellOfEntry, cellIndex, totRow, offRow, dayIndex, dayFresh, dayBlanks, isRunDay, coverageOf, energyOf, runDatesOf, peakOf, totalsOf}
+use Rattle.ledger.specs.Calls.{Published, asPublished, Placing, publish, openingVerdict, registrationVerdict, receptionVerdict, runUnready, runVerdict, rowAt, carriedEntry, comparedEntry, differing, follows, movedInRow, movedByRow, followRow, inheritedAfter, carryOn, settled, newRow, ranFrom, stretchSum, datesSum, daysUnready, dayVerdict, entriesAt, totalsFor, cellVerdict, cellFor, netVerdict, netFor, bandVerdict, bandFor, fillVerdict, fillFor, coverageFor}
+use Rattle.ledger.specs.Ready.{Ready, ready, row-bounds}
 use Rattle.ledger.proofs.Open.{sizes-valid}
 use Rattle.ledger.proofs.Choices.{check-passed}
 use Rattle.ledger.proofs.Chosen.{chosen-few}
-use Rattle.ledger.proofs.Days.{fresh-most, blanks-most, run-most}
-use Rattle.ledger.proofs.Lists.{sumBelow-most}
 use Rattle.entries.proofs.RowLaws.{differing-le}
 use Rattle.store.specs.declared.outcome.Outcome.{Outcome}
 use Rattle.store.specs.declared.outcome.Outcome.the-variants as outcome
@@ -127,78 +123,15 @@ run-fits S M R C K d = answer-fits (runVerdict S M R C K d) (moved (ranFrom S M 
 
 -- ---- reads, where entries are of 64 bits
 
-opened-cells : (S C : List ℕ) (rest : ℕ) → cond (cellsUnready S C) 1 rest ≡ 0 → Ready S
-unfolding cellsUnready
-opened-cells S C rest e = ready S (and-eq-true-iff (settingsReady S) (cellsReady S C) .0 (not-false _ (check-passed _ 0 rest e .0)) .0)
+opened-days : (S K : List ℕ) (rest : ℕ) → cond (daysUnready S K) 1 rest ≡ 0 → Ready S
+unfolding daysUnready
+opened-days S K rest e = ready S (and-eq-true-iff (settingsReady S) (daysReady S K) .0 (not-false _ (check-passed _ 0 rest e .0)) .0)
 
 letter-low : (f : Flag) → Fits (letterOf f)
 letter-low A = omega arith
 letter-low D = omega arith
 letter-low E = omega arith
 letter-low N = omega arith
-
-cond-low : (b : Bool) (x m : ℕ) → x ≤ m → cond b x 0 ≤ m
-cond-low true x m h = h
-cond-low false x m h = zero-le
-
-annual-low : (sum days m : ℕ) → sum ≤ m → days ≤ 365 → annual sum days ≤ 2 * (m * 365) + 365
-unfolding annual average
-annual-low sum days m h few =
-    let low = div-le-self (2 * (sum * 365) + days) (2 * days) in
-    cases (eqb days 365) (λ q. rw q (omega arith)) (λ q. rw q (omega arith))
-
-module _ (duration periods w : ℕ) (isRun : ℕ → Bool) (cell : ℕ → ℕ → Cell) (few : periods ≤ 96) (low : (x j : ℕ) → cell x j .value ≤ 4294967295) where
-  day-low : (f : ℕ → ℕ) → ((k : ℕ) → f k ≤ 4294967295) → sumBelow periods f ≤ 412316860320
-  day-low f h = omega (arith, sumBelow-most periods 4294967295 f (λ k l. h k), mul-le-mul-right 4294967295 few)
-
-  tot-low : (x : ℕ) → totOn duration periods w isRun cell x ≤ 412316860320
-  unfolding totOn
-  tot-low x = day-low _ (λ k. low x (suc k))
-
-  off-low : (x : ℕ) → offOn duration periods w isRun cell x ≤ 412316860320
-  unfolding offOn
-  off-low x = day-low _ (λ k. cond-low (liesWithin duration (windowStart w) (windowEnd w) (suc k)) (cell x (suc k) .value) 4294967295 (low x (suc k)))
-
-  peak-low : (x : ℕ) → peakOn duration periods w isRun cell x ≤ 412316860320
-  unfolding peakOn
-  peak-low x = let h = tot-low x in cases (eqb w 0) (λ q. rw q zero-le) (λ q. rw q (omega arith))
-
-  totals-low : (d : ℕ) → FieldsFit (totalsAre (totalsOn duration periods w isRun cell d))
-  unfolding totalsOn
-  totals-low d =
-      let days = run-most isRun 365 1 (λ _. 1) d (λ x. omega arith) in
-      let year : overRunDates isRun 365 (totOn duration periods w isRun cell) d ≤ 150495654016800 = omega (arith, run-most isRun 365 412316860320 (totOn duration periods w isRun cell) d tot-low) in
-      let few-days : overRunDates isRun 365 (λ _. 1) d ≤ 365 = omega arith in (
-        omega (arith, tot-low d),
-        (
-          omega (arith, off-low d),
-          (
-            omega (arith, peak-low d),
-            (
-              omega (arith, run-most isRun 7 412316860320 _ d tot-low),
-              (
-                omega (arith, run-most isRun 7 412316860320 _ d off-low),
-                (
-                  omega (arith, run-most isRun 7 412316860320 _ d peak-low),
-                  (
-                    omega (arith, run-most isRun 7 1 (λ _. 1) d (λ x. omega arith)),
-                    (
-                      omega (arith, annual-low _ _ 150495654016800 year few-days),
-                      (
-                        omega arith,
-                        (
-                          omega (arith, fresh-most periods (λ k. cell d (suc k))),
-                          (omega (arith, blanks-most periods (λ k. cell d (suc k))), tt),
-                        ),
-                      ),
-                    ),
-                  ),
-                ),
-              ),
-            ),
-          ),
-        ),
-      )
 
 dates-few : (n : ℕ) (isRun : ℕ → Bool) (dayType tot : ℕ → ℕ) (a : BandCall) → length (bandDates n isRun dayType tot a) ≤ n
 unfolding bandDates
@@ -225,36 +158,84 @@ module _ (S C : List ℕ) (entries : (i : ℕ) → getD C i 0 < 1844674407370955
   pub cell-fits : (d c j : ℕ) → FieldsFit (answer (cellVerdict S C d c j) (cellIs (cellFor S C d c j)))
   cell-fits d c j = answer-fits (cellVerdict S C d c j) (cellIs (cellFor S C d c j)) (unfold cellVerdict in omega arith) (λ e. cell-low d c j)
 
-  pub totals-fits : (d c : ℕ) → FieldsFit (answer (totalsVerdict S C d c) (totalsAre (totalsFor S C d c)))
-  unfolding totalsVerdict readCheck totalsFor
-  totals-fits d c =
-      answer-fits (totalsVerdict S C d c) (totalsAre (totalsFor S C d c)) (omega arith)
-      (λ e. totals-low _ _ _ _ _ (periods-bound S (opened-cells S C _ e) .1) (λ x j. value-low x c j) d)
-
 -- there are at most as many dates as the store has
-pub band-fits : (S C : List ℕ) (a : BandCall) → FieldsFit (answer (bandVerdict S C a) (bandIs (bandFor S C a)))
+pub band-fits : (S K : List ℕ) (a : BandCall) → FieldsFit (answer (bandVerdict S K a) (bandIs (bandFor S K a)))
 unfolding bandVerdict bandCheck bandFor bandOn
-band-fits S C a =
-    answer-fits (bandVerdict S C a) (bandIs (bandFor S C a)) (omega arith)
+band-fits S K a =
+    answer-fits (bandVerdict S K a) (bandIs (bandFor S K a)) (omega arith)
     (λ e.
-    let t = opened-cells S C _ e .dates .1 in
-    let few : length (bandDates (datesOf S) (isRunAt (rowLength S) C) (dayTypeOf S) (λ d. totalsFor S C d (a .category) .tot) a) ≤ datesOf S = dates-few (datesOf S) _ _ _ a in
+    let t = opened-days S K _ e .dates .1 in
+    let few : length (bandDates (datesOf S) (isRunDay (datesOf S) (a .category) K) (dayTypeOf S) (λ d. totalsFor S K d (a .category) .tot) a) ≤ datesOf S = dates-few (datesOf S) _ _ _ a in
     (omega arith, omega arith))
 
-pub net-fits : (S C : List ℕ) (a : NetCall) → FieldsFit (answer (netVerdict S C a) (netIs (netFor S C a)))
+pub net-fits : (S C K : List ℕ) (a : NetCall) → FieldsFit (answer (netVerdict S C K a) (netIs (netFor S C K a)))
 unfolding netVerdict
-net-fits S C a = answer-fits (netVerdict S C a) (netIs (netFor S C a)) (omega arith) (λ e. tt)
+net-fits S C K a = answer-fits (netVerdict S C K a) (netIs (netFor S C K a)) (omega arith) (λ e. tt)
 
 pub fill-fits : (S C : List ℕ) (a : FillCall) → FieldsFit (answer (fillVerdict S C a) (filledAre (fillFor S C a)))
 unfolding fillVerdict
 fill-fits S C a = answer-fits (fillVerdict S C a) (filledAre (fillFor S C a)) (omega arith) (λ e. tt)
 
--- a coverage has numbers of 16 bits, whatever the days hold
-pub coverage-fits : (S K : List ℕ) (d c : ℕ) → FieldsFit (answer (coverageVerdict S K d c) (coverageIs (coverageFor S K d c)))
-unfolding coverageVerdict coverageFor coverageOf
+-- ---- reads of the days, whatever these hold
+
+-- a coverage has numbers of 16 bits
+pub coverage-fits : (S K : List ℕ) (d c : ℕ) → FieldsFit (answer (dayVerdict S K d c) (coverageIs (coverageFor S K d c)))
+unfolding dayVerdict coverageFor coverageOf
 coverage-fits S K d c =
-    answer-fits (coverageVerdict S K d c) (coverageIs (coverageFor S K d c)) (omega arith)
+    answer-fits (dayVerdict S K d c) (coverageIs (coverageFor S K d c)) (omega arith)
     (λ e. (omega arith, (omega arith, (omega arith, (omega arith, (omega arith, tt))))))
+
+-- energies have 48 bits, numbers of dates 16
+energy-low : (entry : ℕ) → energyOf entry < 281474976710656
+unfolding energyOf
+energy-low entry = omega arith
+
+run-dates-low : (n d at : ℕ) (K : List ℕ) → runDatesOf (datesSum n d at K) < 65536
+unfolding runDatesOf datesSum stretchSum
+run-dates-low n d at K = omega arith
+
+peak-low : (w tot off : ℕ) → tot < 281474976710656 → Fits (peakOf w tot off)
+unfolding peakOf
+peak-low w tot off h = cases (eqb w 0) (λ q. rw q (omega arith)) (λ q. rw q (omega arith))
+
+annual-low : (sum days : ℕ) → sum < 281474976710656 → days < 65536 → Fits (annual sum days)
+unfolding annual average
+annual-low sum days h few =
+    let low = div-le-self (2 * (sum * 365) + days) (2 * days) in
+    cases (eqb days 365) (λ q. rw q (omega arith)) (λ q. rw q (omega arith))
+
+counts-low : (entry : ℕ) → (dayFresh entry < 65536) × (dayBlanks entry < 65536)
+unfolding dayFresh dayBlanks
+counts-low entry = (omega arith, omega arith)
+
+totals-low : (S K : List ℕ) (d c : ℕ) → FieldsFit (totalsAre (totalsFor S K d c))
+unfolding totalsFor totalsOf
+totals-low S K d c =
+    let tot = energy-low (entriesAt S K d c .tot) in
+    let off = energy-low (entriesAt S K d c .off) in
+    let week = energy-low (datesSum 7 d (dayIndex (datesOf S) c totRow d) K) in
+    let off-week = energy-low (datesSum 7 d (dayIndex (datesOf S) c offRow d) K) in
+    let year = energy-low (datesSum 365 d (dayIndex (datesOf S) c totRow d) K) in
+    let days7 = run-dates-low 7 d (dayIndex (datesOf S) c totRow d) K in
+    let days = run-dates-low 365 d (dayIndex (datesOf S) c totRow d) K in
+    let counts = counts-low (entriesAt S K d c .day) in
+    let w = categoryOf S c .window in (
+      omega arith,
+      (
+        omega arith,
+        (
+          peak-low w _ _ tot,
+          (
+            omega arith,
+            (omega arith, (peak-low w _ _ week, (omega arith, (annual-low _ _ year days, (omega arith, (omega (arith, counts .0), (omega (arith, counts .1), tt))))))),
+          ),
+        ),
+      ),
+    )
+
+pub totals-fits : (S K : List ℕ) (d c : ℕ) → FieldsFit (answer (dayVerdict S K d c) (totalsAre (totalsFor S K d c)))
+unfolding dayVerdict
+totals-fits S K d c = answer-fits (dayVerdict S K d c) (totalsAre (totalsFor S K d c)) (omega arith) (λ e. totals-low S K d c)
 
 -- ---- what fits with some lists for results fits with any
 

@@ -14,7 +14,7 @@ ghost use mathlib.Core.Bool.{not};
 ghost use lib.Dec.{eqb};
 ghost use Rattle.ledger.specs.Ledger.{answer, accepted, moved, totalsAre, cellIs, netIs, bandIs, filledAre, coverageIs, left};
 ghost use Rattle.ledger.specs.Fill.{ofCategory, ofOptedOut};
-ghost use Rattle.ledger.specs.Calls.{openingVerdict, registrationVerdict, registeredMeters, receptionVerdict, receivedReadings, runVerdict, ranFrom, totalsVerdict, totalsFor, cellVerdict, cellFor, netVerdict, netFor, bandVerdict, bandFor, fillVerdict, fillFor, coverageVerdict, coverageFor, overwritten};
+ghost use Rattle.ledger.specs.Calls.{openingVerdict, registrationVerdict, registeredMeters, receptionVerdict, receivedReadings, runVerdict, ranFrom, dayVerdict, totalsFor, cellVerdict, cellFor, netVerdict, netFor, bandVerdict, bandFor, fillVerdict, fillFor, coverageFor, overwritten};
 ghost use Rattle.registration.specs.Registration.{registrationCall};
 ghost use Rattle.reception.specs.Reception.{receptionCall};
 ghost use Rattle.net.specs.Asked.{netCall};
@@ -155,17 +155,17 @@ pub extern "C" fn jihoweka_run(
 #[no_mangle]
 pub extern "C" fn jihoweka_read_totals(
     settings: &[u8],
-    cells: &[u64],
+    days: &[u64],
     date: u64,
     category: u64,
     fields: &mut [i64],
 ) -> u64
-    ensures { λ r. ⌜ Returned (now (fields .entry)) (answer (totalsVerdict (now (settings .entry)) (now (cells .entry)) date category) (totalsAre (totalsFor (now (settings .entry)) (now (cells .entry)) date category))) r (now (fields .exit)) ⌝ }
+    ensures { λ r. ⌜ Returned (now (fields .entry)) (answer (dayVerdict (now (settings .entry)) (now (days .entry)) date category) (totalsAre (totalsFor (now (settings .entry)) (now (days .entry)) date category))) r (now (fields .exit)) ⌝ }
 {
     if fields.len() < FIELDS {
         return SHORT;
     }
-    let outcome = engine::read_totals(settings, cells, date, category);
+    let outcome = engine::read_totals(settings, days, date, category);
     put_fields(fields, of_totals(outcome))
 }
 
@@ -192,6 +192,7 @@ pub extern "C" fn jihoweka_read_cell(
 pub extern "C" fn jihoweka_read_net(
     settings: &[u8],
     cells: &[u64],
+    days: &[u64],
     date: u64,
     category: u64,
     all_groups: u64,
@@ -199,9 +200,9 @@ pub extern "C" fn jihoweka_read_net(
     marks: &mut [u8],
     fields: &mut [i64],
 ) -> u64
-    ensures answers { λ r. ⌜ Returned (now (fields .entry)) (answer (netVerdict (now (settings .entry)) (now (cells .entry)) (netCall (not (eqb «all_groups» 0)) date category (now (numbers .entry)) (now (marks .entry)))) (netIs (netFor (now (settings .entry)) (now (cells .entry)) (netCall (not (eqb «all_groups» 0)) date category (now (numbers .entry)) (now (marks .entry)))))) r (now (fields .exit)) ⌝ }
-    ensures nets_are { λ r. ⌜ now (numbers .exit) ≡ unlessShort (now (fields .entry)) (now (numbers .entry)) (left (netVerdict (now (settings .entry)) (now (cells .entry)) (netCall (not (eqb «all_groups» 0)) date category (now (numbers .entry)) (now (marks .entry)))) (now (numbers .entry)) (overwritten (netFor (now (settings .entry)) (now (cells .entry)) (netCall (not (eqb «all_groups» 0)) date category (now (numbers .entry)) (now (marks .entry))) .periods) (now (numbers .entry)))) ⌝ }
-    ensures marks_are { λ r. ⌜ now (marks .exit) ≡ unlessShort (now (fields .entry)) (now (marks .entry)) (left (netVerdict (now (settings .entry)) (now (cells .entry)) (netCall (not (eqb «all_groups» 0)) date category (now (numbers .entry)) (now (marks .entry)))) (now (marks .entry)) (overwritten (netFor (now (settings .entry)) (now (cells .entry)) (netCall (not (eqb «all_groups» 0)) date category (now (numbers .entry)) (now (marks .entry))) .marks) (now (marks .entry)))) ⌝ }
+    ensures answers { λ r. ⌜ Returned (now (fields .entry)) (answer (netVerdict (now (settings .entry)) (now (cells .entry)) (now (days .entry)) (netCall (not (eqb «all_groups» 0)) date category (now (numbers .entry)) (now (marks .entry)))) (netIs (netFor (now (settings .entry)) (now (cells .entry)) (now (days .entry)) (netCall (not (eqb «all_groups» 0)) date category (now (numbers .entry)) (now (marks .entry)))))) r (now (fields .exit)) ⌝ }
+    ensures nets_are { λ r. ⌜ now (numbers .exit) ≡ unlessShort (now (fields .entry)) (now (numbers .entry)) (left (netVerdict (now (settings .entry)) (now (cells .entry)) (now (days .entry)) (netCall (not (eqb «all_groups» 0)) date category (now (numbers .entry)) (now (marks .entry)))) (now (numbers .entry)) (overwritten (netFor (now (settings .entry)) (now (cells .entry)) (now (days .entry)) (netCall (not (eqb «all_groups» 0)) date category (now (numbers .entry)) (now (marks .entry))) .periods) (now (numbers .entry)))) ⌝ }
+    ensures marks_are { λ r. ⌜ now (marks .exit) ≡ unlessShort (now (fields .entry)) (now (marks .entry)) (left (netVerdict (now (settings .entry)) (now (cells .entry)) (now (days .entry)) (netCall (not (eqb «all_groups» 0)) date category (now (numbers .entry)) (now (marks .entry)))) (now (marks .entry)) (overwritten (netFor (now (settings .entry)) (now (cells .entry)) (now (days .entry)) (netCall (not (eqb «all_groups» 0)) date category (now (numbers .entry)) (now (marks .entry))) .marks) (now (marks .entry)))) ⌝ }
 {
     if fields.len() < FIELDS {
         return SHORT;
@@ -209,6 +210,7 @@ pub extern "C" fn jihoweka_read_net(
     let outcome = engine::read_net(
         settings,
         cells,
+        days,
         date,
         category,
         all_groups != 0,
@@ -221,7 +223,7 @@ pub extern "C" fn jihoweka_read_net(
 #[no_mangle]
 pub extern "C" fn jihoweka_search_band(
     settings: &[u8],
-    cells: &[u64],
+    days: &[u64],
     category: u64,
     day_type: u64,
     least: u64,
@@ -229,13 +231,13 @@ pub extern "C" fn jihoweka_search_band(
     dates: &mut [u64],
     fields: &mut [i64],
 ) -> u64
-    ensures answers { λ r. ⌜ Returned (now (fields .entry)) (answer (bandVerdict (now (settings .entry)) (now (cells .entry)) (bandCall category «day_type» least most (now (dates .entry)))) (bandIs (bandFor (now (settings .entry)) (now (cells .entry)) (bandCall category «day_type» least most (now (dates .entry)))))) r (now (fields .exit)) ⌝ }
-    ensures dates_are { λ r. ⌜ now (dates .exit) ≡ unlessShort (now (fields .entry)) (now (dates .entry)) (left (bandVerdict (now (settings .entry)) (now (cells .entry)) (bandCall category «day_type» least most (now (dates .entry)))) (now (dates .entry)) (overwritten (bandFor (now (settings .entry)) (now (cells .entry)) (bandCall category «day_type» least most (now (dates .entry))) .dates) (now (dates .entry)))) ⌝ }
+    ensures answers { λ r. ⌜ Returned (now (fields .entry)) (answer (bandVerdict (now (settings .entry)) (now (days .entry)) (bandCall category «day_type» least most (now (dates .entry)))) (bandIs (bandFor (now (settings .entry)) (now (days .entry)) (bandCall category «day_type» least most (now (dates .entry)))))) r (now (fields .exit)) ⌝ }
+    ensures dates_are { λ r. ⌜ now (dates .exit) ≡ unlessShort (now (fields .entry)) (now (dates .entry)) (left (bandVerdict (now (settings .entry)) (now (days .entry)) (bandCall category «day_type» least most (now (dates .entry)))) (now (dates .entry)) (overwritten (bandFor (now (settings .entry)) (now (days .entry)) (bandCall category «day_type» least most (now (dates .entry))) .dates) (now (dates .entry)))) ⌝ }
 {
     if fields.len() < FIELDS {
         return SHORT;
     }
-    let outcome = engine::search_band(settings, cells, category, day_type, least, most, dates);
+    let outcome = engine::search_band(settings, days, category, day_type, least, most, dates);
     put_fields(fields, of_band(outcome))
 }
 
@@ -301,7 +303,7 @@ pub extern "C" fn jihoweka_read_coverage(
     category: u64,
     fields: &mut [i64],
 ) -> u64
-    ensures { λ r. ⌜ Returned (now (fields .entry)) (answer (coverageVerdict (now (settings .entry)) (now (days .entry)) date category) (coverageIs (coverageFor (now (settings .entry)) (now (days .entry)) date category))) r (now (fields .exit)) ⌝ }
+    ensures { λ r. ⌜ Returned (now (fields .entry)) (answer (dayVerdict (now (settings .entry)) (now (days .entry)) date category) (coverageIs (coverageFor (now (settings .entry)) (now (days .entry)) date category))) r (now (fields .exit)) ⌝ }
 {
     if fields.len() < FIELDS {
         return SHORT;

@@ -14,7 +14,7 @@ use lib.Seq.{drop-drop, drop-at, take-at, length-take-le}
 use borrow.Author.Tests.{eqb-true, eqb-false, eq-eqb, ne-eqb}
 use Rattle.ledger.specs.Method.{blank}
 use Rattle.ledger.specs.Ready.{Ready}
-use Rattle.ledger.specs.Store.{categoriesOf, datesOf, periodsOf, rowLength, entryOf}
+use Rattle.ledger.specs.Store.{categoriesOf, datesOf, rowLength, entryOf}
 use Rattle.ledger.specs.Table.{tabulate, filling}
 use Rattle.ledger.specs.Calls.{rowAt, putRow, lastRun, inheritedFrom, differing, carriedEntry, keptDays, Published, asPublished, Placing, publish, countOnly, follows, followedEntry, inheritedBeyond, followRow, inheritedAfter, movedInRow, carryOn}
 use Rattle.ledger.proofs.Walks.{put-same, carryOn-end, carryOn-pass, carryOn-stop, carryOn-go, carryOn-same}
@@ -49,14 +49,14 @@ part-spliced xs ys at w h long =
 -- the row put in its stretch, and the days kept from it
 pub published-is : (s : List ℕ) (date at w : ℕ) (new : ℕ → ℕ) (cells days ys days′ : List ℕ) → at ≡ date * rowLength s → w ≡ rowLength s →
     date * rowLength s + rowLength s ≤ length cells → ys ≡ tabulate (rowLength s) new →
-    days′ ≡ keptDays (datesOf s) (periodsOf s) date (take w (drop at (spliced cells ys at w))) (categoriesOf s) days →
+    days′ ≡ keptDays s date (take w (drop at (spliced cells ys at w))) (categoriesOf s) days →
     asPublished (spliced cells ys at w) days′ ≡ publish s date (tabulate (rowLength s) new) (asPublished cells days)
 published-is s date at w new cells days ys days′ start width fit row kept =
     let back : take w (drop at (spliced cells ys at w)) ≡ tabulate (rowLength s) new =
     part-spliced cells ys at w (rw start (omega (arith, fit))) (ap length row ∙ length-tabulate (rowLength s) new ∙ sym width) ∙ row in
     ap₂ asPublished
     (put-is (rowLength s) date at w cells start width ys ∙ ap (λ (xs : List ℕ). putRow (rowLength s) date xs cells) row)
-    (kept ∙ ap (λ (xs : List ℕ). keptDays (datesOf s) (periodsOf s) date xs (categoriesOf s) days) back)
+    (kept ∙ ap (λ (xs : List ℕ). keptDays s date xs (categoriesOf s) days) back)
 
 -- that lies within, by the start and width that the code has
 pub within : (n d at w : ℕ) {L : ℕ} → at ≡ d * n → w ≡ n → d * n + n ≤ L → at + w ≤ L
@@ -186,7 +186,7 @@ module _ (s : List ℕ) (t d : ℕ) (inherited cells : List ℕ) (in-range : d <
         inherits moves
 
     -- else the days are kept from the row that was written
-    pub step-written : more ≢ 0 → (days′ : List ℕ) → days′ ≡ keptDays (datesOf s) (periodsOf s) d (take w (drop at (spliced cells ys at w))) (categoriesOf s) days →
+    pub step-written : more ≢ 0 → (days′ : List ℕ) → days′ ≡ keptDays s d (take w (drop at (spliced cells ys at w))) (categoriesOf s) days →
         Stepped publish s t d inherited (asPublished cells days) inherited′ (asPublished (spliced cells ys at w) days′) more (eqb more 0)
     step-written some-moved days′ kept =
         step-follow publish s t d inherited (asPublished cells days) in-range test small inherited′ (asPublished (spliced cells ys at w) days′) more

@@ -16,7 +16,7 @@ use Rattle.ledger.specs.Fill.{FillCall, mayFill}
 use Rattle.ledger.specs.Sizes.{metersLength, cellsLength, daysLength}
 use Rattle.ledger.specs.Ledger.{Opening, categories, dates, periods, Meter, category, Ledger, start, Call, register, receive, run, readTotals, readCell, readNet, searchBand, fillHole, readCoverage, Answer, moved, totalsAre, cellIs, netIs, bandIs, filledAre, coverageIs, answer, left, Lengths, settingsShort, metersShort, cellsShort, daysShort, anyShort, ledgerRegistrationCheck, afterRegistration, ledgerReceptionCheck, afterReception, cellAt, isRun, ledgerRunCheck, afterRun, movedBetween, ledgerTotalsCheck, ledgerCellCheck, totalsAt, ledgerNetCheck, netAt, ledgerBandCheck, bandAt, shapeAt, weightAt, ledgerFillCheck, fillAt, ledgerCoverageCheck, coverageAt, ledgerAnswer, ledgerAfter}
 use Rattle.ledger.specs.Store.{rowLength, datesOf, categoriesOf, periodsOf, isRunAt, categoryOf, isRunDay}
-use Rattle.ledger.specs.Calls.{metersUnready, cellsUnready, daysUnready, openingVerdict, openedMeters, openedReadings, openedCells, openedDays, registrationVerdict, registeredMeters, receptionVerdict, receivedReadings, runVerdict, ranFrom, totalsVerdict, totalsFor, cellVerdict, cellFor, netVerdict, netFor, bandVerdict, bandFor, shapeFor, weightFor, fillVerdict, fillFor, coverageVerdict, coverageFor}
+use Rattle.ledger.specs.Calls.{metersUnready, cellsUnready, daysUnready, openingVerdict, openedMeters, openedReadings, openedCells, openedDays, registrationVerdict, registeredMeters, receptionVerdict, receivedReadings, runVerdict, ranFrom, dayVerdict, totalsFor, cellVerdict, cellFor, netVerdict, netFor, bandVerdict, bandFor, shapeFor, weightFor, fillVerdict, fillFor, coverageFor}
 use Rattle.ledger.specs.Engine.{Parts, callAnswer, withMeters, withReadings, withPublished, leaves, openedParts, Item, cut, restored, partsAfter, answersFrom, storeAnswers, cutLengths, ledgerAnswers, Every, lengthsOf, AreBytes, BodyOfBytes, BodiesOfBytes, Agreement}
 use Rattle.ledger.proofs.Choices.{check-passed, neither, both-passed, call-passed}
 use Rattle.ledger.proofs.Verdicts.{left-of, passed-else}
@@ -285,17 +285,25 @@ module _ (whole : Lengths) (p : Parts) (l : Ledger) (agrees : Agrees whole p l) 
   ran-alike : {Range : Type 0} (d : ℕ) → CellsEnough → d < dates o → Range → isRunAt (rowLength S) C d ≡ isRun l d
   ran-alike d e date range = run-is l S C (e .0) (e .1) (agrees .sound) d date
 
-  totals-verdict : (d c : ℕ) → totalsVerdict S C d c ≡ ledgerTotalsCheck l lent d c
-  unfolding totalsVerdict ledgerTotalsCheck
-  totals-verdict d c =
-      rw cells-short
-      (ap verdict (read-check (cellsShort o lent) enough-cells d (totalsInRange (categoriesOf S) c) (totalsInRange (categories o) c) (isRunAt (rowLength S) C d) (λ s. rw (s .categories-are)) (ran-alike d)))
+  -- the reads that go by the days have one check
+  day-check : (d c : ℕ) →
+      dayVerdict S D d c ≡ verdict (readCheck (daysShort o lent) (dates o) d (totalsInRange (categories o) c) (isRun l d))
+  unfolding dayVerdict
+  day-check d c =
+      rw days-short
+      (ap verdict
+      (read-check (daysShort o lent) enough-days d (totalsInRange (categoriesOf S) c) (totalsInRange (categories o) c) (isRunDay (datesOf S) c D d) (λ s. rw (s .categories-are))
+      (λ e date range. run-day-is l S D (e .0) (e .1) (agrees .sound) d c date (ltb-true c (categories o) (unfold totalsInRange in range)))))
 
-  totals-value : (d c : ℕ) → ledgerTotalsCheck l lent d c .number ≡ 0 → totalsFor S C d c ≡ totalsAt l d c
+  totals-verdict : (d c : ℕ) → dayVerdict S D d c ≡ ledgerTotalsCheck l lent d c
+  unfolding ledgerTotalsCheck
+  totals-verdict d c = day-check d c
+
+  totals-value : (d c : ℕ) → ledgerTotalsCheck l lent d c .number ≡ 0 → totalsFor S D d c ≡ totalsAt l d c
   unfolding ledgerTotalsCheck totalsInRange
   totals-value d c e =
-      let (enough, date, range, ran) = read-ok (cellsShort o lent) enough-cells d (totalsInRange (categories o) c) e in
-      totals-are l S C (enough .0) (enough .1) (agrees .sound) d c date (ltb-true c (categories o) range) ran
+      let (enough, date, range, ran) = read-ok (daysShort o lent) enough-days d (totalsInRange (categories o) c) e in
+      totals-are l S D (enough .0) (enough .1) (agrees .sound) d c date (ltb-true c (categories o) range) ran
 
   totals-step : (d c : ℕ) → Step (readTotals d c)
   unfolding callAnswer leaves ledgerAnswer ledgerAfter
@@ -330,44 +338,54 @@ module _ (whole : Lengths) (p : Parts) (l : Ledger) (agrees : Agrees whole p l) 
   lists-short : (x y : ℕ) → (cellsUnready S C || listsShort (periodsOf S) x y) ≡ (cellsShort o lent || listsShort (periods o) x y)
   lists-short x y = rw cells-short (cases (cellsShort o lent) (λ q. rw q) (λ q. unfold periodsOf in rw (q, enough-cells q .0 .duration)))
 
+  -- a net read is lent cells and days
+  abbrev netShort : NetCall → Bool
+  netShort a = daysShort o lent || (cellsShort o lent || listsShort (periods o) (a .numbers) (a .marks))
+
+  enough-net : (a : NetCall) → netShort a ≡ false → SettingsAgree o S × (CellsAgree o C (l .pictures) × DaysAgree o D (l .pictures))
+  enough-net a q =
+      let e = neither _ _ q in
+      let cells = enough-cells (neither _ _ (e .1) .0) in
+      (cells .0, (cells .1, enough-days (e .0) .1))
+
   -- 26 looks at a category that there is
-  net-verdict : (a : NetCall) → netVerdict S C a ≡ ledgerNetCheck l lent a
+  net-verdict : (a : NetCall) → netVerdict S C D a ≡ ledgerNetCheck l lent a
   unfolding netVerdict ledgerNetCheck netCheck
   net-verdict a =
-      rw (lists-short (a .numbers) (a .marks))
+      rw (days-short, lists-short (a .numbers) (a .marks))
       (ap verdict
-      (range-check (cellsShort o lent || listsShort (periods o) (a .numbers) (a .marks)) (λ q. enough-cells (neither _ _ q .0)) (a .date) (totalsInRange (categoriesOf S) (a .category)) (totalsInRange (categories o) (a .category)) (λ s. rw (s .categories-are))
+      (range-check (netShort a) (enough-net a) (a .date) (totalsInRange (categoriesOf S) (a .category)) (totalsInRange (categories o) (a .category)) (λ s. rw (s .categories-are))
       (cond (not (mayNet (categoryOf S) (categoriesOf S) (a .allGroups) (a .category))) 26 (cond (not (isRunAt (rowLength S) C (a .date))) 14 0))
       (cond (not (mayNet (category o) (categories o) (a .allGroups) (a .category))) 26 (cond (not (isRun l (a .date))) 14 0))
       (λ e date range.
       rw (
         e .0 .categories-are,
-        run-is l S C (e .0) (e .1) (agrees .sound) (a .date) date,
-        may-net-is l S C (e .0) (e .1) (agrees .sound) (a .allGroups) (a .category) (ltb-true (a .category) (categories o) (unfold totalsInRange in range)),
+        run-is l S C (e .0) (e .1 .0) (agrees .sound) (a .date) date,
+        may-net-is l S C (e .0) (e .1 .0) (agrees .sound) (a .allGroups) (a .category) (ltb-true (a .category) (categories o) (unfold totalsInRange in range)),
       ))))
 
-  net-value : (a : NetCall) → ledgerNetCheck l lent a .number ≡ 0 → netFor S C a ≡ netAt l a
+  net-value : (a : NetCall) → ledgerNetCheck l lent a .number ≡ 0 → netFor S C D a ≡ netAt l a
   unfolding ledgerNetCheck netCheck totalsInRange
   net-value a e =
-      let (enough, date, range, rest) = range-ok (cellsShort o lent || listsShort (periods o) (a .numbers) (a .marks)) (λ q. enough-cells (neither _ _ q .0)) (a .date) (totalsInRange (categories o) (a .category)) _ e in
+      let (enough, date, range, rest) = range-ok (netShort a) (enough-net a) (a .date) (totalsInRange (categories o) (a .category)) _ e in
       let p26 = check-passed (not (mayNet (category o) (categories o) (a .allGroups) (a .category))) 25 _ rest in
-      net-is l S C (enough .0) (enough .1) (agrees .sound) a date (ltb-true (a .category) (categories o) range) (ran-ok (a .date) 0 (p26 .1) .0)
+      net-is l S C D (enough .0) (enough .1 .0) (enough .1 .1) (agrees .sound) a date (ltb-true (a .category) (categories o) range) (ran-ok (a .date) 0 (p26 .1) .0)
 
   net-step : (a : NetCall) → Step (readNet a)
   unfolding callAnswer leaves ledgerAnswer ledgerAfter
   net-step a = record { answers = rw (net-verdict a) (same-answer _ _ _ (λ e. ap netIs (net-value a e))); after = read-agrees }
 
-  band-verdict : (a : BandCall) → bandVerdict S C a ≡ ledgerBandCheck l lent a
+  band-verdict : (a : BandCall) → bandVerdict S D a ≡ ledgerBandCheck l lent a
   unfolding bandVerdict ledgerBandCheck bandCheck
-  band-verdict a = rw cells-short (cases (cellsShort o lent) (λ q. rw q) (λ q. rw (q, enough-cells q .0 .categories-are)))
+  band-verdict a = rw days-short (cases (daysShort o lent) (λ q. rw q) (λ q. rw (q, enough-days q .0 .categories-are)))
 
-  band-value : (a : BandCall) → ledgerBandCheck l lent a .number ≡ 0 → bandFor S C a ≡ bandAt l a
+  band-value : (a : BandCall) → ledgerBandCheck l lent a .number ≡ 0 → bandFor S D a ≡ bandAt l a
   unfolding ledgerBandCheck bandCheck totalsInRange
   band-value a e =
-      let p1 = check-passed (cellsShort o lent) 0 _ e in
+      let p1 = check-passed (daysShort o lent) 0 _ e in
       let p15 = check-passed (not (ltb (a .category) (categories o))) 14 0 (p1 .1) in
-      let enough = enough-cells (p1 .0) in
-      band-is l S C (enough .0) (enough .1) (agrees .sound) a (ltb-true (a .category) (categories o) (not-false _ (p15 .0)))
+      let enough = enough-days (p1 .0) in
+      band-is l S D (enough .0) (enough .1) (agrees .sound) a (ltb-true (a .category) (categories o) (not-false _ (p15 .0)))
 
   band-step : (a : BandCall) → Step (searchBand a)
   unfolding callAnswer leaves ledgerAnswer ledgerAfter
@@ -398,13 +416,9 @@ module _ (whole : Lengths) (p : Parts) (l : Ledger) (agrees : Agrees whole p l) 
   unfolding callAnswer leaves ledgerAnswer ledgerAfter
   fill-step a = record { answers = rw (fill-verdict a) (same-answer _ _ _ (λ e. ap filledAre (fill-value a e))); after = read-agrees }
 
-  coverage-verdict : (d c : ℕ) → coverageVerdict S D d c ≡ ledgerCoverageCheck l lent d c
-  unfolding coverageVerdict ledgerCoverageCheck
-  coverage-verdict d c =
-      rw days-short
-      (ap verdict
-      (read-check (daysShort o lent) enough-days d (totalsInRange (categoriesOf S) c) (totalsInRange (categories o) c) (isRunDay (datesOf S) c D d) (λ s. rw (s .categories-are))
-      (λ e date range. run-day-is l S D (e .0) (e .1) (agrees .sound) d c date (ltb-true c (categories o) (unfold totalsInRange in range)))))
+  coverage-verdict : (d c : ℕ) → dayVerdict S D d c ≡ ledgerCoverageCheck l lent d c
+  unfolding ledgerCoverageCheck
+  coverage-verdict d c = day-check d c
 
   coverage-value : (d c : ℕ) → ledgerCoverageCheck l lent d c .number ≡ 0 → coverageFor S D d c ≡ coverageAt l d c
   unfolding ledgerCoverageCheck totalsInRange

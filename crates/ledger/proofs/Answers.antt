@@ -1,81 +1,29 @@
 -- The reads answer alike.
-use Prim.Native.Nat.{ℕ, suc, _-_, _≤_, _<_}
-use mathlib.Core.Path.{_≡_, refl, sym, ap, _∙_}
+use Prim.Native.Nat.{ℕ, suc, _-_, _%_, _<_}
+use mathlib.Core.Path.{_≡_, refl, sym, ap}
 use mathlib.Core.Bool.{Bool, true, cond}
 use mathlib.Core.List.{List}
 use native.Mathlib.Omega.{arith}
-use lib.Dec.{leb}
 use borrow.Table.Steps.{cases}
 use borrow.Author.Tests.{ne-eqb}
-use Rattle.metering.specs.Average.{annual}
-use Rattle.metering.specs.Calendar.{liesWithin, windowStart, windowEnd}
-use Rattle.ledger.specs.Method.{Cell, isFresh, isBlank, overRunDates, freshAmong, blanksAmong, totOn, offOn, peakOn, totalsOn}
-use Rattle.ledger.specs.Net.{activeImport, activeExport, onSide, sideOf}
+use lib.IntN.{pos, _-ℤ_}
+use Rattle.ledger.specs.Net.{activeImport, activeExport, onSide, sideOf, sumOver, netOn}
 use Rattle.ledger.specs.Band.{BandCall, inBand, bandDates, bandOn}
 use Rattle.ledger.specs.Fill.{ShapeOf, ofCategory, ofOptedOut, isOptedOutShape, shapeCategory, FillCall, weightBy, mayFill}
 use Rattle.ledger.specs.Checks.{NetCall, mayNet}
 use Rattle.ledger.specs.Ledger.{categories, dates, periods, category, dayType, Ledger, cellBy, cellAt, isPicture, isRun, totalsAt, sideAt, netAt, bandAt, shapeAt, weightAt, fillAt, coverageAt}
-use Rattle.ledger.specs.Store.{datesOf, periodsOf, rowLength, categoryOf, dayTypeOf, cellIndex, isRunAt, isRunDay}
-use Rattle.ledger.specs.Calls.{rowAt, cellFor, totalsFor, sideFor, netFor, bandFor, shapeFor, weightFor, fillFor, coverageFor}
+use Rattle.ledger.specs.Store.{datesOf, periodsOf, rowLength, categoryOf, dayTypeOf, cellIndex, isRunAt, totRow, offRow, dayIndex, dayEntryOf, dayEntriesOf, isRunDay}
+use Rattle.ledger.specs.Calls.{rowAt, cellFor, datesSum, entriesAt, totalsFor, sideFor, weekFor, netOf, netFor, bandFor, shapeFor, weightFor, fillFor, coverageFor}
 use Rattle.ledger.specs.Engine.{Every}
-use Rattle.ledger.proofs.Lists.{sumBelow-cong}
-use Rattle.ledger.proofs.Days.{day-not-zero, recounted}
+use Rattle.ledger.proofs.Lists.{sumBelow-cong, tabulate-ext}
+use Rattle.ledger.proofs.Days.{over, day-not-zero, recounted}
+use Rattle.ledger.proofs.Totals.{dates-sum, totals-kept}
 use Rattle.ledger.proofs.Chosen.{chosen-cong, chosen-below, first-cong}
-use Rattle.ledger.proofs.Nets.{net-cong}
+use Rattle.ledger.proofs.Nets.{sumOver-cong, period-cong, tot-cong, mark-cong}
+use Rattle.ledger.proofs.NetDemands.{net-of-totals}
 use Rattle.ledger.proofs.Fills.{filled-cong}
 use Rattle.ledger.proofs.Relation.{SettingsAgree, CellsAgree, dayBy, DaysAgree, Sound}
-use Rattle.ledger.proofs.Runs.{valid-periods, ran-is, entry-is}
-
--- ---- totals over cells that are alike on run dates
-
-over-cong : (run run′ : ℕ → Bool) (n : ℕ) (f f′ : ℕ → ℕ) (d : ℕ) → ((x : ℕ) → x ≤ d → run x ≡ run′ x) → ((x : ℕ) → x ≤ d → run x ≡ true → f x ≡ f′ x) →
-    overRunDates run n f d ≡ overRunDates run′ n f′ d
-unfolding overRunDates
-over-cong run run′ n f f′ d r h =
-    sumBelow-cong n _ _
-    (λ k l.
-    cases (leb k d)
-    (λ q.
-    let below : d - k ≤ d = omega arith in
-    rw (q, ← (r (d - k) below)) (cases (run (d - k)) (λ w. rw (w, h (d - k) below w)) (λ w. rw w)))
-    (λ q. rw q))
-
-module _ (duration periods w : ℕ) (run run′ : ℕ → Bool) (cell cell′ : ℕ → ℕ → Cell) (d : ℕ) (same : (x : ℕ) → x ≤ d → run x ≡ run′ x)
-    (alike : (x k : ℕ) → x ≤ d → run x ≡ true → k < periods → cell x (suc k) ≡ cell′ x (suc k)) where
-  tot-cong : (x : ℕ) → x ≤ d → run x ≡ true → totOn duration periods w run cell x ≡ totOn duration periods w run′ cell′ x
-  unfolding totOn
-  tot-cong x h r = sumBelow-cong periods _ _ (λ k l. ap (λ a. a .value) (alike x k h r l))
-
-  off-cong : (x : ℕ) → x ≤ d → run x ≡ true → offOn duration periods w run cell x ≡ offOn duration periods w run′ cell′ x
-  unfolding offOn
-  off-cong x h r = sumBelow-cong periods _ _ (λ k l. ap (λ a. cond (liesWithin duration (windowStart w) (windowEnd w) (suc k)) (a .value) 0) (alike x k h r l))
-
-  peak-cong : (x : ℕ) → x ≤ d → run x ≡ true → peakOn duration periods w run cell x ≡ peakOn duration periods w run′ cell′ x
-  unfolding peakOn
-  peak-cong x h r = rw (tot-cong x h r, off-cong x h r)
-
-  over-alike : (n : ℕ) (f f′ : ℕ → ℕ) → ((x : ℕ) → x ≤ d → run x ≡ true → f x ≡ f′ x) → overRunDates run n f d ≡ overRunDates run′ n f′ d
-  over-alike n f f′ h = over-cong run run′ n f f′ d same h
-
-  totals-cong : run d ≡ true → totalsOn duration periods w run cell d ≡ totalsOn duration periods w run′ cell′ d
-  unfolding totalsOn freshAmong blanksAmong
-  totals-cong r =
-      let days : overRunDates run 365 (λ _. 1) d ≡ overRunDates run′ 365 (λ _. 1) d = over-alike 365 (λ _. 1) (λ _. 1) (λ x h q. refl) in
-      let here : (k : ℕ) → k < periods → cell d (suc k) ≡ cell′ d (suc k) = λ k l. alike d k (omega arith) r l in
-      λ i.
-      record {
-        tot = tot-cong d (omega arith) r i;
-        off = off-cong d (omega arith) r i;
-        peak = peak-cong d (omega arith) r i;
-        tot7 = over-alike 7 _ _ tot-cong i;
-        off7 = over-alike 7 _ _ off-cong i;
-        peak7 = over-alike 7 _ _ peak-cong i;
-        days7 = over-alike 7 (λ _. 1) (λ _. 1) (λ x h q. refl) i;
-        ann = annual (over-alike 365 _ _ tot-cong i) (days i);
-        days = days i;
-        fresh = sumBelow-cong periods (λ k. isFresh (cell d (suc k) .flag)) (λ k. isFresh (cell′ d (suc k) .flag)) (λ k l. ap (λ a. isFresh (a .flag)) (here k l)) i;
-        blanks = sumBelow-cong periods (λ k. isBlank (cell d (suc k) .flag)) (λ k. isBlank (cell′ d (suc k) .flag)) (λ k l. ap (λ a. isBlank (a .flag)) (here k l)) i;
-      }
+use Rattle.ledger.proofs.Runs.{valid-periods, ran-is, value-small, entry-is}
 
 -- ---- the store's cells are the ledger's
 
@@ -92,16 +40,6 @@ module _ (l : Ledger) (s cells : List ℕ) (agree : SettingsAgree (l .opening) s
     where
       pred-suc : (k : ℕ) → suc k - 1 ≡ k
       pred-suc k = omega arith
-
-  pub totals-are : (d c : ℕ) → d < dates (l .opening) → c < categories (l .opening) → isRun l d ≡ true → totalsFor s cells d c ≡ totalsAt l d c
-  unfolding totalsFor totalsAt periodsOf
-  totals-are d c hd hc r =
-      rw (agree .duration, agree .records c hc)
-      (totals-cong (l .opening .duration) (periods (l .opening)) (category (l .opening) c .window) (isRunAt (rowLength s) cells) (isRun l)
-      (λ x j. cellFor s cells x c j) (λ x j. cellAt l x c j) d
-      (λ x h. run-is x (omega arith))
-      (λ x k h q m. cell-is x c k (omega arith) hc m (sym (run-is x (omega arith)) ∙ q))
-      (run-is d hd ∙ r))
 
   -- the settings have the opening's categories, so the same ones stand on each side of a net
   side-same : (allGroups : Bool) (quantity c : ℕ) → c < categories (l .opening) →
@@ -123,30 +61,6 @@ module _ (l : Ledger) (s cells : List ℕ) (agree : SettingsAgree (l .opening) s
   side-low : (allGroups : Bool) (quantity c : ℕ) → Every (λ b. b < categories (l .opening)) (sideAt l allGroups quantity c)
   unfolding sideAt sideOf
   side-low allGroups quantity c = chosen-below (categories (l .opening)) _
-
-  pub net-is : (a : NetCall) → a .date < dates (l .opening) → a .category < categories (l .opening) → isRun l (a .date) ≡ true → netFor s cells a ≡ netAt l a
-  unfolding netFor netAt periodsOf
-  net-is a hd hc r =
-      rw (agree .duration, side-is (a .allGroups) activeImport (a .category) hc, side-is (a .allGroups) activeExport (a .category) hc)
-      (net-cong (periods (l .opening)) (isRunAt (rowLength s) cells) (isRun l) (cellFor s cells) (cellAt l) (categories (l .opening))
-      (sideAt l (a .allGroups) activeImport (a .category)) (sideAt l (a .allGroups) activeExport (a .category))
-      (side-low (a .allGroups) activeImport (a .category)) (side-low (a .allGroups) activeExport (a .category))
-      (a .date)
-      (λ x h. run-is x (omega arith))
-      (λ x c k h m q n. cell-is x c k (omega arith) m n (sym (run-is x (omega arith)) ∙ q))
-      (run-is (a .date) hd ∙ r))
-
-  -- a date that is not run is in no band, and on a run one TOT is the same
-  band-test : (a : BandCall) → a .category < categories (l .opening) → (d : ℕ) → d < dates (l .opening) →
-      inBand (dates (l .opening)) (isRunAt (rowLength s) cells) (dayTypeOf s) (λ x. totalsFor s cells x (a .category) .tot) a d
-      ≡ inBand (dates (l .opening)) (isRun l) (dayType (l .opening)) (λ x. totalsAt l x (a .category) .tot) a d
-  unfolding inBand
-  band-test a hc d hd =
-      rw (agree .types d hd, run-is d hd) (cases (isRun l d) (λ q. rw (q, totals-are d (a .category) hd hc q)) (λ q. rw q))
-
-  pub band-is : (a : BandCall) → a .category < categories (l .opening) → bandFor s cells a ≡ bandAt l a
-  unfolding bandFor bandAt bandOn bandDates
-  band-is a hc = rw (agree .dates-are, chosen-cong (dates (l .opening)) _ _ (band-test a hc))
 
 -- the settings have the opening's categories, so an opted-out meter takes the same one
 pub shape-is : (l : Ledger) (s : List ℕ) → SettingsAgree (l .opening) s → (a : FillCall) → shapeFor s a ≡ shapeAt l a
@@ -171,22 +85,111 @@ module _ (l : Ledger) (s cells : List ℕ) (agree : SettingsAgree (l .opening) s
   unfolding fillFor fillAt periodsOf
   fill-is = rw (agree .duration) (filled-cong (periods (l .opening)) (weightFor s cells a) (weightAt l a) (a .advance) weight-is)
 
--- ---- coverage
+-- ---- totals, coverage and bands
 
-module _ (l : Ledger) (s days : List ℕ) (agree : SettingsAgree (l .opening) s) (daysAgree : DaysAgree (l .opening) days (l .pictures)) (sound : Sound l) (d c : ℕ)
-    (hd : d < dates (l .opening)) (hc : c < categories (l .opening)) where
+module _ (l : Ledger) (s days : List ℕ) (agree : SettingsAgree (l .opening) s) (daysAgree : DaysAgree (l .opening) days (l .pictures)) (sound : Sound l) where
   -- a date is run in the days where it is run
-  pub run-day-is : isRunDay (datesOf s) c days d ≡ isRun l d
-  unfolding isRunDay isRun dayBy
-  run-day-is =
+  pub run-day-is : (d c : ℕ) → d < dates (l .opening) → c < categories (l .opening) → isRunDay (datesOf s) c days d ≡ isRun l d
+  unfolding isRunDay isRun dayBy dayEntriesOf
+  run-day-is d c hd hc =
       rw (agree .dates-are, daysAgree .are c d hc hd .0)
       (cases (isPicture (l .pictures d))
       (λ r. rw (r, ne-eqb _ 0 (day-not-zero (periods (l .opening)) (λ k. cellBy (l .opening) (l .pictures) d c (suc k)))))
       (λ r. rw r))
 
-  pub coverage-is : isRun l d ≡ true → coverageFor s days d c ≡ coverageAt l d c
-  unfolding coverageFor coverageAt isRun cellAt dayBy
-  coverage-is r =
+  day-is : (d c : ℕ) →
+      dayBy (l .opening) (l .pictures) c d .day
+      ≡ cond (isPicture (l .pictures d)) (dayEntryOf (periods (l .opening)) (λ k. cellBy (l .opening) (l .pictures) d c (suc k))) 0
+  unfolding dayBy dayEntriesOf
+  day-is d c = cases (isPicture (l .pictures d)) (λ q. rw q) (λ q. rw q)
+
+  pub coverage-is : (d c : ℕ) → d < dates (l .opening) → c < categories (l .opening) → isRun l d ≡ true → coverageFor s days d c ≡ coverageAt l d c
+  unfolding coverageFor coverageAt isRun cellAt
+  coverage-is d c hd hc r =
       rw (agree .dates-are, daysAgree .are c d hc hd .0, daysAgree .are c d hc hd .1)
       (recounted (periods (l .opening)) (valid-periods (l .opening) (sound .valid) .1) (λ x. isPicture (l .pictures x)) (λ x j. cellBy (l .opening) (l .pictures) x c j)
-      (dayBy (l .opening) (l .pictures) c) d (λ y h. refl) r)
+      (λ y. dayBy (l .opening) (l .pictures) c y .day) d (λ y m. day-is y c) r)
+
+  -- what is read off the days of the dates up to d
+  entries-are : (d c : ℕ) → d < dates (l .opening) → c < categories (l .opening) → entriesAt s days d c ≡ dayBy (l .opening) (l .pictures) c d
+  unfolding entriesAt
+  entries-are d c hd hc =
+      rw (agree .dates-are)
+      (λ i. record { day = daysAgree .are c d hc hd .0 i; tot = daysAgree .are c d hc hd .2 i; off = daysAgree .are c d hc hd .3 i })
+
+  tots-are : (n d c : ℕ) → d < dates (l .opening) → c < categories (l .opening) →
+      datesSum n d (dayIndex (datesOf s) c totRow d) days ≡ over n (λ y. dayBy (l .opening) (l .pictures) c y .tot) d % 18446744073709551616
+  tots-are n d c hd hc =
+      rw (agree .dates-are)
+      (dates-sum (dates (l .opening)) c totRow n d days (λ y. dayBy (l .opening) (l .pictures) c y .tot) (λ y m. daysAgree .are c y hc (omega arith) .2))
+
+  offs-are : (n d c : ℕ) → d < dates (l .opening) → c < categories (l .opening) →
+      datesSum n d (dayIndex (datesOf s) c offRow d) days ≡ over n (λ y. dayBy (l .opening) (l .pictures) c y .off) d % 18446744073709551616
+  offs-are n d c hd hc =
+      rw (agree .dates-are)
+      (dates-sum (dates (l .opening)) c offRow n d days (λ y. dayBy (l .opening) (l .pictures) c y .off) (λ y m. daysAgree .are c y hc (omega arith) .3))
+
+  pub totals-are : (d c : ℕ) → d < dates (l .opening) → c < categories (l .opening) → isRun l d ≡ true → totalsFor s days d c ≡ totalsAt l d c
+  unfolding totalsFor totalsAt isRun cellAt
+  totals-are d c hd hc r =
+      rw (agree .records c hc, entries-are d c hd hc, tots-are 7 d c hd hc, offs-are 7 d c hd hc, tots-are 365 d c hd hc)
+      (totals-kept (l .opening .duration) (periods (l .opening)) (category (l .opening) c .window) (valid-periods (l .opening) (sound .valid) .1) (λ x. isPicture (l .pictures x))
+      (λ x j. cellBy (l .opening) (l .pictures) x c j) (dayBy (l .opening) (l .pictures) c) d
+      (λ y m. unfold dayBy in refl)
+      (λ y k m n. value-small (l .opening) (l .pictures) (sound .valid) (sound .pictures-are) y c k (omega arith) n)
+      r)
+
+  -- a date that is not run is in no band, and on a run one TOT is the same
+  band-test : (a : BandCall) → a .category < categories (l .opening) → (d : ℕ) → d < dates (l .opening) →
+      inBand (dates (l .opening)) (isRunDay (datesOf s) (a .category) days) (dayTypeOf s) (λ x. totalsFor s days x (a .category) .tot) a d
+      ≡ inBand (dates (l .opening)) (isRun l) (dayType (l .opening)) (λ x. totalsAt l x (a .category) .tot) a d
+  unfolding inBand
+  band-test a hc d hd =
+      rw (agree .types d hd, run-day-is d (a .category) hd hc) (cases (isRun l d) (λ q. rw (q, totals-are d (a .category) hd hc q)) (λ q. rw q))
+
+  pub band-is : (a : BandCall) → a .category < categories (l .opening) → bandFor s days a ≡ bandAt l a
+  unfolding bandFor bandAt bandOn bandDates
+  band-is a hc = rw (agree .dates-are, chosen-cong (dates (l .opening)) _ _ (rw (agree .dates-are) at (band-test a hc)))
+
+-- ---- nets: periods from the cells, TOT7 from the days
+
+module _ (l : Ledger) (s cells days : List ℕ) (agree : SettingsAgree (l .opening) s) (cellsAgree : CellsAgree (l .opening) cells (l .pictures))
+    (daysAgree : DaysAgree (l .opening) days (l .pictures)) (sound : Sound l) where
+  week-is : (side : List ℕ) (d : ℕ) → Every (λ b. b < categories (l .opening)) side → d < dates (l .opening) → isRun l d ≡ true →
+      weekFor s days side d ≡ sumOver side (λ c. totalsAt l d c .tot7)
+  unfolding weekFor
+  week-is side d low hd r = sumOver-cong side _ _ (λ c. c < categories (l .opening)) low (λ c h. ap (λ t. t .tot7) (totals-are l s days agree daysAgree sound d c hd h r))
+
+  module _ (a : NetCall) (hd : a .date < dates (l .opening)) (hc : a .category < categories (l .opening)) (r : isRun l (a .date) ≡ true) where
+    abbrev imports : List ℕ
+    imports = sideAt l (a .allGroups) activeImport (a .category)
+
+    abbrev exports : List ℕ
+    exports = sideAt l (a .allGroups) activeExport (a .category)
+
+    import-low : Every (λ b. b < categories (l .opening)) imports
+    import-low = side-low l s cells agree cellsAgree sound (a .allGroups) activeImport (a .category)
+
+    export-low : Every (λ b. b < categories (l .opening)) exports
+    export-low = side-low l s cells agree cellsAgree sound (a .allGroups) activeExport (a .category)
+
+    alike : (c k : ℕ) → c < categories (l .opening) → k < periods (l .opening) → cellFor s cells (a .date) c (suc k) ≡ cellAt l (a .date) c (suc k)
+    alike c k m n = cell-is l s cells agree cellsAgree sound (a .date) c k hd m n r
+
+    abbrev ran : ℕ → Bool
+    ran = isRunAt (rowLength s) cells
+
+    week : pos (weekFor s days imports (a .date)) -ℤ pos (weekFor s days exports (a .date)) ≡ netAt l a .tot7
+    week = rw (week-is imports (a .date) import-low hd r, week-is exports (a .date) export-low hd r) (sym (net-of-totals l a .1))
+
+    pub net-is : netFor s cells days a ≡ netAt l a
+    unfolding netFor netOf netAt netOn periodsOf
+    net-is =
+        rw (agree .duration, side-is l s cells agree cellsAgree sound (a .allGroups) activeImport (a .category) hc, side-is l s cells agree cellsAgree sound (a .allGroups) activeExport (a .category) hc)
+        (λ i.
+        record {
+          tot = tot-cong (periods (l .opening)) ran (isRun l) (cellFor s cells) (cellAt l) (categories (l .opening)) imports exports import-low export-low (a .date) alike i;
+          tot7 = week i;
+          periods = tabulate-ext (periods (l .opening)) _ _ (period-cong (periods (l .opening)) ran (isRun l) (cellFor s cells) (cellAt l) (categories (l .opening)) imports exports import-low export-low (a .date) alike) i;
+          marks = tabulate-ext (periods (l .opening)) _ _ (mark-cong (periods (l .opening)) ran (isRun l) (cellFor s cells) (cellAt l) (categories (l .opening)) imports exports import-low export-low (a .date) alike) i;
+        })

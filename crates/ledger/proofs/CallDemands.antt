@@ -74,6 +74,13 @@ module _ (o : Opening) (n : Lengths) where
     λ h. rw (cells-iff .1 (h .0), le-ltb _ _ (h .1), le-ltb _ _ (h .2)),
   )
 
+  -- the net read is lent days as well
+  pub net-lists-iff : (x y : ℕ) → ((daysShort o n || (cellsShort o n || listsShort (periods o) x y)) ≡ false) ↔ (DaysLong o n × CellsLong o n × (periods o ≤ x) × (periods o ≤ y))
+  net-lists-iff x y = (
+    λ e. let p = neither _ _ e in let q = lists-iff x y .0 (p .1) in (days-iff .0 (p .0), q .0, q .1, q .2),
+    λ h. rw (days-iff .1 (h .0), lists-iff x y .1 (h .1, h .2, h .3)),
+  )
+
   any-iff : (anyShort o n ≡ false) ↔ AllLong o n
   unfolding anyShort
   any-iff = (
@@ -595,7 +602,7 @@ pub totals-exact : TotalsExact
 unfolding ledgerAnswer ledgerTotalsCheck readCheck totalsInRange
 totals-exact l n d c =
     goes-by (ledgerTotalsCheck l n d c) _ refl
-    (finds-row refl (cells-iff (l .opening) n)
+    (finds-row refl (days-iff (l .opening) n)
     (finds-row refl (date-iff (dates (l .opening)) d)
     (finds-row refl (not-iff _ (below-iff (categories (l .opening)) c))
     (finds-row refl (not-iff _ (ran-iff l d))
@@ -633,7 +640,7 @@ pub band-answer : BandAnswer
 unfolding ledgerAnswer ledgerBandCheck bandCheck totalsInRange
 band-answer l n a =
     goes-by (ledgerBandCheck l n a) _ refl
-    (finds-row refl (cells-iff (l .opening) n)
+    (finds-row refl (days-iff (l .opening) n)
     (finds-row refl (not-iff _ (below-iff (categories (l .opening)) (a .category)))
     finds-none))
 

@@ -5,6 +5,7 @@ use mathlib.Core.Logic.{_≢_, _⊎_, ⊎-elim, inl, inr}
 use mathlib.Core.Bool.{Bool, true, _&&_, cond}
 use mathlib.Core.List.{List}
 use native.Mathlib.Omega.{arith}
+use native.Mathlib.Nat.{zero-mul}
 use lib.Dec.{leb, ltb, eqb}
 use lib.Arith.{lt-of-le-ne}
 use lib.ListN.{length, getD, set, length-set}
@@ -15,8 +16,8 @@ use Rattle.metering.specs.Sum.{sumBelow}
 use Rattle.ledger.specs.Method.{Flag, A, D, E, N, Cell, isFresh, isBlank, overRunDates, freshAmong, blanksAmong, oldestAmong, coverageOn}
 use Rattle.ledger.specs.Sizes.{daysLength}
 use Rattle.ledger.specs.Table.{tabulate}
-use Rattle.ledger.specs.Store.{cellOfEntry, dayIndex, sumIndex, dayEntry, dayEntryOf, countsOf, coverageOf}
-use Rattle.ledger.specs.Calls.{wrappingSum, wrappingDifference, raised, raisedSums, putDay, keptDays}
+use Rattle.ledger.specs.Store.{datesOf, periodsOf, cellOfEntry, dayRow, sumRow, totRow, offRow, dayIndex, DayEntries, notRunEntries, dayEntry, dayEntryOf, dayEntriesOf, countsOf, coverageOf}
+use Rattle.ledger.specs.Calls.{wrappingSum, wrappingDifference, raised, raisedSums, placed, putDay, entriesFor, keptDays}
 use Rattle.ledger.proofs.Lists.{getD-sets-below, getD-sets-above, getD-sets-at, length-tabulate, getD-tabulate, sumBelow-cong, sumBelow-none, sumBelow-plus, sum-times, sumBelow-most, part-le, sumBelow-changed, block-other, block-below}
 
 -- ---- sums over dates
@@ -66,32 +67,54 @@ sums-small u v x few-u few-v = let week = over-small 7 u x (omega arith) few-u i
 unfoldable pub sumsOf : (ℕ → ℕ) → ℕ → ℕ
 sumsOf v x = over 7 v x + 4294967296 * over 365 v x
 
--- days as they should be: e c x is the entry that category c and date x should have
-abbrev pub DaysAre : ℕ → ℕ → (ℕ → ℕ → ℕ) → List ℕ → Type 0
+-- days as they should be: e c x is what category c and date x should have
+abbrev pub DaysAre : ℕ → ℕ → (ℕ → ℕ → DayEntries) → List ℕ → Type 0
 DaysAre T C e days =
-    (c x : ℕ) → c < C → x < T → (getD days (dayIndex T c x) 0 ≡ e c x) × (getD days (sumIndex T c x) 0 ≡ sumsOf (λ y. countsOf (e c y)) x)
+    (c x : ℕ) → c < C → x < T →
+    (getD days (dayIndex T c dayRow x) 0 ≡ e c x .day) × (getD days (dayIndex T c sumRow x) 0 ≡ sumsOf (λ y. countsOf (e c y .day)) x)
+    × (getD days (dayIndex T c totRow x) 0 ≡ e c x .tot)
+    × (getD days (dayIndex T c offRow x) 0 ≡ e c x .off)
 
-over-cong : (n : ℕ) (v w : ℕ → ℕ) (x : ℕ) → ((y : ℕ) → y ≤ x → v y ≡ w y) → over n v x ≡ over n w x
+pub over-cong : (n : ℕ) (v w : ℕ → ℕ) (x : ℕ) → ((y : ℕ) → y ≤ x → v y ≡ w y) → over n v x ≡ over n w x
 unfolding over
 over-cong n v w x h = sumBelow-cong n _ _ (λ k l. ap (λ (a : ℕ). cond (leb k x) a 0) (h (x - k) (omega arith)))
 
 -- only the entries of the categories and dates that there are count
-pub days-cong : (T C : ℕ) (e f : ℕ → ℕ → ℕ) (days : List ℕ) → ((c y : ℕ) → c < C → y < T → e c y ≡ f c y) → DaysAre T C e days → DaysAre T C f days
+pub days-cong : (T C : ℕ) (e f : ℕ → ℕ → DayEntries) (days : List ℕ) → ((c y : ℕ) → c < C → y < T → e c y ≡ f c y) → DaysAre T C e days → DaysAre T C f days
 unfolding sumsOf
 days-cong T C e f days h are c x hc hx =
-    let alike : (y : ℕ) → y ≤ x → countsOf (e c y) ≡ countsOf (f c y) = λ y l. ap countsOf (h c y hc (omega arith)) in (
-      are c x hc hx .0 ∙ h c x hc hx,
+    let alike : (y : ℕ) → y ≤ x → countsOf (e c y .day) ≡ countsOf (f c y .day) = λ y l. ap (λ (a : DayEntries). countsOf (a .day)) (h c y hc (omega arith)) in
+    let same = h c x hc hx in (
+      are c x hc hx .0 ∙ ap (λ (a : DayEntries). a .day) same,
       are c x hc hx .1 ∙ ap₂ (λ (a b : ℕ). a + 4294967296 * b) (over-cong 7 _ _ x alike) (over-cong 365 _ _ x alike),
+      are c x hc hx .2 ∙ ap (λ (a : DayEntries). a .tot) same,
+      are c x hc hx .3 ∙ ap (λ (a : DayEntries). a .off) same,
     )
 
--- each entry and each sum stands in the part
-pub day-below : (T C c x : ℕ) → c < C → x < T → dayIndex T c x < daysLength C T
-unfolding dayIndex daysLength
-day-below T C c x hc hx = block-below (2 * T) C c x hc (omega arith)
+-- ---- places
 
-pub sum-below : (T C c x : ℕ) → c < C → x < T → sumIndex T c x < daysLength C T
-unfolding sumIndex daysLength
-sum-below T C c x hc hx = block-below (2 * T) C c (T + x) hc (omega arith)
+-- each entry stands in the part
+pub day-below : (T C c r x : ℕ) → c < C → r < 4 → x < T → dayIndex T c r x < daysLength C T
+unfolding dayIndex daysLength
+day-below T C c r x hc hr hx = block-below T (4 * C) (4 * c + r) x (omega arith) hx
+
+-- two places differ where the blocks do or the places in them do
+block-apart : (s q j r k : ℕ) → (q ≢ r) ⊎ (j ≢ k) → j < s → k < s → q * s + j ≢ r * s + k
+block-apart s q j r k other hj hk e =
+    cases (eqb q r)
+    (λ p.
+    let same = eqb-true q r p in
+    ⊎-elim (λ l. l same) (λ l. l (let here = ap (λ (x : ℕ). x * s) same in omega arith)) other)
+    (λ p. block-other s q j r k (eqb-false q r p) hj hk e)
+
+rows-apart : (T b r x c q y : ℕ) → r < 4 → q < 4 → r ≢ q → x < T → y < T → dayIndex T b r x ≢ dayIndex T c q y
+unfolding dayIndex
+rows-apart T b r x c q y hr hq other hx hy = block-other T (4 * b + r) x (4 * c + q) y (λ (e : 4 * b + r ≡ 4 * c + q). other (omega arith)) hx hy
+
+days-apart : (T b r x c y : ℕ) → (b ≢ c) ⊎ (x ≢ y) → x < T → y < T → dayIndex T b r x ≢ dayIndex T c r y
+unfolding dayIndex
+days-apart T b r x c y other hx hy =
+    block-apart T (4 * b + r) x (4 * c + r) y (⊎-elim (λ o. inl (λ (e : 4 * b + r ≡ 4 * c + r). o (omega arith))) (λ o. inr o) other) hx hy
 
 -- ---- entries raised
 
@@ -126,59 +149,52 @@ module _ (by n first : ℕ) (xs : List ℕ) where
       (λ p. let high = ltb-true j (first + n) p in absurd (other (j - first) (omega arith) (omega arith)))
       (λ p. getD-sets-above news xs first j (rw long (ltb-false j (first + n) p))))
 
--- two places differ where the blocks do or the places in them do
-block-apart : (s q j r k : ℕ) → (q ≢ r) ⊎ (j ≢ k) → j < s → k < s → q * s + j ≢ r * s + k
-block-apart s q j r k other hj hk e =
-    cases (eqb q r)
-    (λ p.
-    let same = eqb-true q r p in
-    ⊎-elim (λ l. l same) (λ l. l (let here = ap (λ (x : ℕ). x * s) same in omega arith)) other)
-    (λ p. block-other s q j r k (eqb-false q r p) hj hk e)
-
 -- the sums of category c and of up to n dates from d on are raised, and nothing else
 module _ (T c d n by : ℕ) (xs : List ℕ) (hd : d < T) where
   abbrev up : List ℕ
-  up = raised by (min n (T - d)) (sumIndex T c d) xs
+  up = raised by (min n (T - d)) (dayIndex T c sumRow d) xs
 
-  raised-days : (b x : ℕ) → x < T → getD up (dayIndex T b x) 0 ≡ getD xs (dayIndex T b x) 0
-  unfolding dayIndex sumIndex
-  raised-days b x h =
-      raised-other by (min n (T - d)) (c * (2 * T) + (T + d)) xs (b * (2 * T) + x)
-      (λ k l q. block-apart (2 * T) b x c (T + d + k) (inr (λ (p : x ≡ T + d + k). omega arith)) (omega arith) (omega arith) (omega arith))
+  next-index : (k : ℕ) → dayIndex T c sumRow d + k ≡ dayIndex T c sumRow (d + k)
+  unfolding dayIndex
+  next-index k = omega arith
 
-  raised-far : (b x : ℕ) → x < T → (b ≢ c) ⊎ ((x < d) ⊎ (d + n ≤ x)) → getD up (sumIndex T b x) 0 ≡ getD xs (sumIndex T b x) 0
-  unfolding sumIndex
+  raised-row : (b r x : ℕ) → r < 4 → r ≢ sumRow → x < T → getD up (dayIndex T b r x) 0 ≡ getD xs (dayIndex T b r x) 0
+  raised-row b r x hr other h =
+      raised-other by (min n (T - d)) (dayIndex T c sumRow d) xs (dayIndex T b r x)
+      (λ k l q. rows-apart T b r x c sumRow (d + k) hr (omega arith) other h (omega arith) (q ∙ next-index k))
+
+  raised-far : (b x : ℕ) → x < T → (b ≢ c) ⊎ ((x < d) ⊎ (d + n ≤ x)) → getD up (dayIndex T b sumRow x) 0 ≡ getD xs (dayIndex T b sumRow x) 0
   raised-far b x h far =
-      raised-other by (min n (T - d)) (c * (2 * T) + (T + d)) xs (b * (2 * T) + (T + x))
+      raised-other by (min n (T - d)) (dayIndex T c sumRow d) xs (dayIndex T b sumRow x)
       (λ k l q.
-      block-apart (2 * T) b (T + x) c (T + d + k)
-      (⊎-elim inl (λ f. inr (λ (p : T + x ≡ T + d + k). ⊎-elim (λ (m : x < d). omega arith) (λ (m : d + n ≤ x). omega arith) f)) far)
-      (omega arith) (omega arith) (omega arith))
+      days-apart T b sumRow x c (d + k)
+      (⊎-elim inl (λ f. inr (λ (p : x ≡ d + k). ⊎-elim (λ (m : x < d). omega arith) (λ (m : d + n ≤ x). omega arith) f)) far)
+      h (omega arith) (q ∙ next-index k))
 
   raised-near : (C x : ℕ) → c < C → daysLength C T ≤ length xs → x < T → d ≤ x → x < d + n →
-      getD up (sumIndex T c x) 0 ≡ wrappingSum (getD xs (sumIndex T c x) 0) by
-  unfolding sumIndex daysLength
+      getD up (dayIndex T c sumRow x) 0 ≡ wrappingSum (getD xs (dayIndex T c sumRow x) 0) by
   raised-near C x hc fits h low high =
-      let at : c * (2 * T) + (T + d) + (x - d) ≡ c * (2 * T) + (T + x) = omega arith in
-      let room = block-below (2 * T) C c (T + d + (T - d - 1)) hc (omega arith) in
-      rw at at (raised-at by (min n (T - d)) (c * (2 * T) + (T + d)) xs (x - d) (omega arith) (omega arith))
+      let at : dayIndex T c sumRow d + (x - d) ≡ dayIndex T c sumRow x = next-index (x - d) ∙ ap (dayIndex T c sumRow) (let same : d + (x - d) ≡ x = omega arith in same) in
+      let last = next-index (T - d - 1) in
+      let room = day-below T C c sumRow (d + (T - d - 1)) hc (omega arith) (omega arith) in
+      rw at at (raised-at by (min n (T - d)) (dayIndex T c sumRow d) xs (x - d) (omega arith) (omega arith))
 
 -- so the sums become w′ where a change from old to new moves those that are raised from w to w′ and no others
 module _ (T C c d n old new : ℕ) (xs : List ℕ) (hc : c < C) (hd : d < T) (fits : daysLength C T ≤ length xs) (w w′ : ℕ → ℕ → ℕ)
-    (are : (b x : ℕ) → b < C → x < T → getD xs (sumIndex T b x) 0 ≡ w b x) (few : old ≤ 18446744073709551616) (small : (b x : ℕ) → w′ b x < 18446744073709551616)
+    (are : (b x : ℕ) → b < C → x < T → getD xs (dayIndex T b sumRow x) 0 ≡ w b x) (few : old ≤ 18446744073709551616) (small : (b x : ℕ) → w′ b x < 18446744073709551616)
     (stand : (b x : ℕ) → (b ≢ c) ⊎ ((x < d) ⊎ (d + n ≤ x)) → w′ b x ≡ w b x) (move : (x : ℕ) → d ≤ x → x < d + n → w′ c x + old ≡ w c x + new) where
   abbrev shifted : List ℕ
-  shifted = raised (wrappingDifference new old) (min n (T - d)) (sumIndex T c d) xs
+  shifted = raised (wrappingDifference new old) (min n (T - d)) (dayIndex T c sumRow d) xs
 
-  shifted-far : (b x : ℕ) → b < C → x < T → (b ≢ c) ⊎ ((x < d) ⊎ (d + n ≤ x)) → getD shifted (sumIndex T b x) 0 ≡ w′ b x
+  shifted-far : (b x : ℕ) → b < C → x < T → (b ≢ c) ⊎ ((x < d) ⊎ (d + n ≤ x)) → getD shifted (dayIndex T b sumRow x) 0 ≡ w′ b x
   shifted-far b x hb hx far = raised-far T c d n (wrappingDifference new old) xs hd b x hx far ∙ are b x hb hx ∙ sym (stand b x far)
 
-  shifted-near : (x : ℕ) → x < T → d ≤ x → x < d + n → getD shifted (sumIndex T c x) 0 ≡ w′ c x
+  shifted-near : (x : ℕ) → x < T → d ≤ x → x < d + n → getD shifted (dayIndex T c sumRow x) 0 ≡ w′ c x
   shifted-near x hx low high =
       raised-near T c d n (wrappingDifference new old) xs hd C x hc fits hx low high
       ∙ rw (are c x hc hx) (wrapped (w c x) (w′ c x) old new (move x low high) few (small c x))
 
-  shifted-sums : (b x : ℕ) → b < C → x < T → getD shifted (sumIndex T b x) 0 ≡ w′ b x
+  shifted-sums : (b x : ℕ) → b < C → x < T → getD shifted (dayIndex T b sumRow x) 0 ≡ w′ b x
   shifted-sums b x hb hx =
       cases (eqb b c)
       (λ q.
@@ -190,19 +206,42 @@ module _ (T C c d n old new : ℕ) (xs : List ℕ) (hc : c < C) (hd : d < T) (fi
       (λ r. shifted-far b x hb hx (inr (inr (ltb-false x (d + n) r))))))
       (λ q. shifted-far b x hb hx (inl (eqb-false b c q)))
 
--- ---- a day put: it changes one entry, and the sums in which its counts are
+-- ---- a date's entries put: three places change, and the sums in which its counts are
 
 sums-length : (T c d old new : ℕ) (xs : List ℕ) → length (raisedSums T c d old new xs) ≡ length xs
 unfolding raisedSums
 sums-length T c d old new xs = raised-length _ _ _ (raised _ _ _ xs) ∙ raised-length _ _ _ xs
 
-put-length : (T c d entry : ℕ) (days : List ℕ) → length (putDay T c d entry days) ≡ length days
+-- three entries put one after the other
+module _ (xs : List ℕ) (i a j b k c : ℕ) where
+  abbrev three : List ℕ
+  three = set (set (set xs i a) j b) k c
+
+  length-three : length three ≡ length xs
+  length-three = length-set (set (set xs i a) j b) k c ∙ length-set (set xs i a) j b ∙ length-set xs i a
+
+  first-three : i < length xs → i ≢ j → i ≢ k → getD three i 0 ≡ a
+  first-three l p q = getD-set-other (set (set xs i a) j b) k i c 0 q ∙ getD-set-other (set xs i a) j i b 0 p ∙ getD-set-same xs i a 0 l
+
+  second-three : j < length xs → j ≢ k → getD three j 0 ≡ b
+  second-three l q = getD-set-other (set (set xs i a) j b) k j c 0 q ∙ getD-set-same (set xs i a) j b 0 (rw (length-set xs i a) l)
+
+  third-three : k < length xs → getD three k 0 ≡ c
+  third-three l = getD-set-same (set (set xs i a) j b) k c 0 (rw (length-set (set xs i a) j b, length-set xs i a) l)
+
+  other-three : (n : ℕ) → n ≢ i → n ≢ j → n ≢ k → getD three n 0 ≡ getD xs n 0
+  other-three n p q r = getD-set-other (set (set xs i a) j b) k n c 0 r ∙ getD-set-other (set xs i a) j n b 0 q ∙ getD-set-other xs i n a 0 p
+
+placed-length : (T c d : ℕ) (entries : DayEntries) (days : List ℕ) → length (placed T c d entries days) ≡ length days
+unfolding placed
+placed-length T c d entries days = length-three days _ _ _ _ _ _
+
+put-length : (T c d : ℕ) (entries : DayEntries) (days : List ℕ) → length (putDay T c d entries days) ≡ length days
 unfolding putDay
-put-length T c d entry days =
-    let at = dayIndex T c d in
-    cases (eqb (countsOf (getD days at 0)) (countsOf entry))
-    (λ q. rw q (length-set days at entry))
-    (λ q. rw q (sums-length T c d _ _ (set days at entry) ∙ length-set days at entry))
+put-length T c d entries days =
+    cases (eqb (countsOf (getD days (dayIndex T c dayRow d) 0)) (countsOf (entries .day)))
+    (λ q. rw q (placed-length T c d _ days))
+    (λ q. rw q (sums-length T c d _ _ _ ∙ placed-length T c d _ days))
 
 this-or-other : (b y c d : ℕ) → ((b ≡ c) × (y ≡ d)) ⊎ ((b ≢ c) ⊎ (y ≢ d))
 this-or-other b y c d =
@@ -210,77 +249,131 @@ this-or-other b y c d =
     (λ q. cases (eqb y d) (λ p. inl (eqb-true b c q, eqb-true y d p)) (λ p. inr (inr (eqb-false y d p))))
     (λ q. inr (inl (eqb-false b c q)))
 
-module _ (T C : ℕ) (e e′ : ℕ → ℕ → ℕ) (days : List ℕ) (are : DaysAre T C e days) (room : daysLength C T ≤ length days)
-    (few : (b y : ℕ) → Few (countsOf (e b y))) (c d entry : ℕ) (hc : c < C) (hd : d < T) (few-new : Few (countsOf entry)) (here : e′ c d ≡ entry)
-    (there : (b y : ℕ) → (b ≢ c) ⊎ (y ≢ d) → e′ b y ≡ e b y) where
+-- the three entries alone: each is in its place, and every other place stands
+module _ (T C c d : ℕ) (entries : DayEntries) (days : List ℕ) (hc : c < C) (hd : d < T) (room : daysLength C T ≤ length days) where
+  place-below : (r : ℕ) → r < 4 → dayIndex T c r d < length days
+  place-below r hr = let l = day-below T C c r d hc hr hd in omega arith
+
+  row-other : (r q : ℕ) → r < 4 → q < 4 → r ≢ q → dayIndex T c r d ≢ dayIndex T c q d
+  row-other r q hr hq other = rows-apart T c r d c q d hr hq other hd hd
+
+  placed-day : getD (placed T c d entries days) (dayIndex T c dayRow d) 0 ≡ entries .day
+  unfolding placed
+  placed-day =
+      first-three days _ _ _ _ _ _ (place-below dayRow (omega arith)) (row-other dayRow totRow (omega arith) (omega arith) (λ e. omega arith)) (row-other dayRow offRow (omega arith) (omega arith) (λ e. omega arith))
+
+  placed-tot : getD (placed T c d entries days) (dayIndex T c totRow d) 0 ≡ entries .tot
+  unfolding placed
+  placed-tot = second-three days _ _ _ _ _ _ (place-below totRow (omega arith)) (row-other totRow offRow (omega arith) (omega arith) (λ e. omega arith))
+
+  placed-off : getD (placed T c d entries days) (dayIndex T c offRow d) 0 ≡ entries .off
+  unfolding placed
+  placed-off = third-three days _ _ _ _ _ _ (place-below offRow (omega arith))
+
+  placed-other : (i : ℕ) → i ≢ dayIndex T c dayRow d → i ≢ dayIndex T c totRow d → i ≢ dayIndex T c offRow d → getD (placed T c d entries days) i 0 ≡ getD days i 0
+  unfolding placed
+  placed-other i a b o = other-three days _ _ _ _ _ _ i a b o
+
+  -- another category's or date's
+  placed-elsewhere : (b r x : ℕ) → r < 4 → x < T → (b ≢ c) ⊎ (x ≢ d) → getD (placed T c d entries days) (dayIndex T b r x) 0 ≡ getD days (dayIndex T b r x) 0
+  placed-elsewhere b r x hr hx other = placed-other (dayIndex T b r x) (apart dayRow (omega arith)) (apart totRow (omega arith)) (apart offRow (omega arith))
+    where
+      apart : (q : ℕ) → q < 4 → dayIndex T b r x ≢ dayIndex T c q d
+      apart q hq = cases (eqb r q) (λ p. rw (eqb-true r q p) (days-apart T b q x c d other hx hd)) (λ p. rows-apart T b r x c q d hr hq (eqb-false r q p) hx hd)
+
+  placed-sum : (b x : ℕ) → x < T → getD (placed T c d entries days) (dayIndex T b sumRow x) 0 ≡ getD days (dayIndex T b sumRow x) 0
+  placed-sum b x hx = placed-other (dayIndex T b sumRow x) (apart dayRow (omega arith) (λ e. omega arith)) (apart totRow (omega arith) (λ e. omega arith)) (apart offRow (omega arith) (λ e. omega arith))
+    where
+      apart : (q : ℕ) → q < 4 → sumRow ≢ q → dayIndex T b sumRow x ≢ dayIndex T c q d
+      apart q hq other = rows-apart T b sumRow x c q d (omega arith) hq other hx hd
+
+module _ (T C : ℕ) (e e′ : ℕ → ℕ → DayEntries) (days : List ℕ) (are : DaysAre T C e days) (room : daysLength C T ≤ length days)
+    (few : (b y : ℕ) → Few (countsOf (e b y .day))) (c d : ℕ) (entries : DayEntries) (hc : c < C) (hd : d < T) (few-new : Few (countsOf (entries .day)))
+    (here : e′ c d ≡ entries) (there : (b y : ℕ) → (b ≢ c) ⊎ (y ≢ d) → e′ b y ≡ e b y) where
   -- the counts before and after
   abbrev v : ℕ → ℕ → ℕ
-  v b y = countsOf (e b y)
+  v b y = countsOf (e b y .day)
 
   abbrev v′ : ℕ → ℕ → ℕ
-  v′ b y = countsOf (e′ b y)
+  v′ b y = countsOf (e′ b y .day)
+
+  abbrev new : ℕ
+  new = countsOf (entries .day)
 
   few′ : (b y : ℕ) → Few (v′ b y)
   few′ b y = ⊎-elim (λ at. rw (at .0, at .1, here) few-new) (λ other. rw (there b y other) (few b y)) (this-or-other b y c d)
 
+  counts-there : (b y : ℕ) → (b ≢ c) ⊎ (y ≢ d) → v′ b y ≡ v b y
+  counts-there b y other = ap (λ (a : DayEntries). countsOf (a .day)) (there b y other)
+
   over-other : (n b x : ℕ) → (b ≢ c) ⊎ ((x < d) ⊎ (d + n ≤ x)) → over n (v′ b) x ≡ over n (v b) x
   over-other n b x far =
       ⊎-elim
-      (λ other. ap (λ u. over n u x) (fun-ext (λ y. ap countsOf (there b y (inl other)))))
-      (λ f. over-kept n (v b) (v′ b) d x (λ y other. ap countsOf (there b y (inr other))) f)
+      (λ other. ap (λ u. over n u x) (fun-ext (λ y. counts-there b y (inl other))))
+      (λ f. over-kept n (v b) (v′ b) d x (λ y other. counts-there b y (inr other)) f)
       far
 
-  over-shifted : (n x : ℕ) → d ≤ x → x < d + n → over n (v′ c) x + v c d ≡ over n (v c) x + countsOf entry
-  over-shifted n x low high = rw here at (over-changed n (v c) (v′ c) d x (λ y other. ap countsOf (there c y (inr other))) low high)
+  over-shifted : (n x : ℕ) → d ≤ x → x < d + n → over n (v′ c) x + v c d ≡ over n (v c) x + new
+  over-shifted n x low high = rw here at (over-changed n (v c) (v′ c) d x (λ y other. counts-there c y (inr other)) low high)
 
-  -- first the entry alone
-  abbrev placed : List ℕ
-  placed = set days (dayIndex T c d) entry
+  abbrev put : List ℕ
+  put = placed T c d entries days
 
-  placed-day : (b x : ℕ) → b < C → x < T → getD placed (dayIndex T b x) 0 ≡ e′ b x
-  unfolding dayIndex
-  placed-day b x hb hx =
+  sum-stands : (b x : ℕ) → b < C → x < T → getD put (dayIndex T b sumRow x) 0 ≡ sumsOf (v b) x
+  sum-stands b x hb hx = placed-sum T C c d entries days hc hd room b x hx ∙ are b x hb hx .1
+
+  -- what category b and date x have beside their sums
+  record Has (xs : List ℕ) (b x : ℕ) : Type 0 where
+    day : getD xs (dayIndex T b dayRow x) 0 ≡ e′ b x .day
+    tot : getD xs (dayIndex T b totRow x) 0 ≡ e′ b x .tot
+    off : getD xs (dayIndex T b offRow x) 0 ≡ e′ b x .off
+
+  put-has : (b x : ℕ) → b < C → x < T → Has put b x
+  put-has b x hb hx =
       ⊎-elim
-      (λ at. rw (at .0, at .1, here) (getD-set-same days (c * (2 * T) + d) entry 0 (let l : c * (2 * T) + d < daysLength C T = unfold dayIndex in day-below T C c d hc hd in omega arith)))
+      (λ at.
+      rw (at .0, at .1)
+      (record {
+        day = rw here (placed-day T C c d entries days hc hd room);
+        tot = rw here (placed-tot T C c d entries days hc hd room);
+        off = rw here (placed-off T C c d entries days hc hd room);
+      }))
       (λ other.
-      getD-set-other days (c * (2 * T) + d) (b * (2 * T) + x) entry 0 (block-apart (2 * T) b x c d other (omega arith) (omega arith))
-      ∙ are b x hb hx .0
-      ∙ sym (there b x other))
+      let same = sym (there b x other) in
+      record {
+        day = placed-elsewhere T C c d entries days hc hd room b dayRow x (omega arith) hx other ∙ are b x hb hx .0 ∙ ap (λ (a : DayEntries). a .day) same;
+        tot = placed-elsewhere T C c d entries days hc hd room b totRow x (omega arith) hx other ∙ are b x hb hx .2 ∙ ap (λ (a : DayEntries). a .tot) same;
+        off = placed-elsewhere T C c d entries days hc hd room b offRow x (omega arith) hx other ∙ are b x hb hx .3 ∙ ap (λ (a : DayEntries). a .off) same;
+      })
       (this-or-other b x c d)
-
-  placed-sum : (b x : ℕ) → b < C → x < T → getD placed (sumIndex T b x) 0 ≡ sumsOf (v b) x
-  unfolding dayIndex sumIndex
-  placed-sum b x hb hx =
-      getD-set-other days (c * (2 * T) + d) (b * (2 * T) + (T + x)) entry 0 (block-apart (2 * T) b (T + x) c d (inr (λ (p : T + x ≡ d). omega arith)) (omega arith) (omega arith))
-      ∙ are b x hb hx .1
 
   -- then the week's part of the sums, and the year's last
   abbrev weekly : List ℕ
-  weekly = raised (wrappingDifference (countsOf entry) (v c d)) (min 7 (T - d)) (sumIndex T c d) placed
+  weekly = raised (wrappingDifference new (v c d)) (min 7 (T - d)) (dayIndex T c sumRow d) put
 
   abbrev yearly : List ℕ
-  yearly = raised (wrappingDifference (4294967296 * countsOf entry) (4294967296 * v c d)) (min 365 (T - d)) (sumIndex T c d) weekly
+  yearly = raised (wrappingDifference (4294967296 * new) (4294967296 * v c d)) (min 365 (T - d)) (dayIndex T c sumRow d) weekly
 
   weekly-length : length weekly ≡ length days
   weekly-length =
-      raised-length (wrappingDifference (countsOf entry) (v c d)) (min 7 (T - d)) (sumIndex T c d) placed ∙ length-set days (dayIndex T c d) entry
+      raised-length (wrappingDifference new (v c d)) (min 7 (T - d)) (dayIndex T c sumRow d) put ∙ placed-length T c d entries days
 
-  weekly-sum : (b x : ℕ) → b < C → x < T → getD weekly (sumIndex T b x) 0 ≡ over 7 (v′ b) x + 4294967296 * over 365 (v b) x
+  weekly-sum : (b x : ℕ) → b < C → x < T → getD weekly (dayIndex T b sumRow x) 0 ≡ over 7 (v′ b) x + 4294967296 * over 365 (v b) x
   unfolding sumsOf
   weekly-sum =
-      shifted-sums T C c d 7 (v c d) (countsOf entry) placed hc hd (rw length-set room)
+      shifted-sums T C c d 7 (v c d) new put hc hd (rw (placed-length T c d entries days) room)
       (λ b x. sumsOf (v b) x)
       (λ b x. over 7 (v′ b) x + 4294967296 * over 365 (v b) x)
-      placed-sum
+      sum-stands
       (let small = few-small (v c d) (few c d) in omega arith)
       (λ b x. sums-small (v′ b) (v b) x (few′ b) (few b))
       (λ b x far. rw (over-other 7 b x far))
       (λ x low high. let week = over-shifted 7 x low high in omega arith)
 
-  yearly-sum : (b x : ℕ) → b < C → x < T → getD yearly (sumIndex T b x) 0 ≡ sumsOf (v′ b) x
+  yearly-sum : (b x : ℕ) → b < C → x < T → getD yearly (dayIndex T b sumRow x) 0 ≡ sumsOf (v′ b) x
   unfolding sumsOf
   yearly-sum =
-      shifted-sums T C c d 365 (4294967296 * v c d) (4294967296 * countsOf entry) weekly hc hd (rw weekly-length room)
+      shifted-sums T C c d 365 (4294967296 * v c d) (4294967296 * new) weekly hc hd (rw weekly-length room)
       (λ b x. over 7 (v′ b) x + 4294967296 * over 365 (v b) x)
       (λ b x. sumsOf (v′ b) x)
       weekly-sum
@@ -289,25 +382,33 @@ module _ (T C : ℕ) (e e′ : ℕ → ℕ → ℕ) (days : List ℕ) (are : Day
       (λ b x far. rw (over-other 365 b x far))
       (λ x low high. let year = over-shifted 365 x low high in omega arith)
 
-  yearly-day : (b x : ℕ) → b < C → x < T → getD yearly (dayIndex T b x) 0 ≡ e′ b x
-  yearly-day b x hb hx =
-      raised-days T c d 365 (wrappingDifference (4294967296 * countsOf entry) (4294967296 * v c d)) weekly hd b x hx
-      ∙ raised-days T c d 7 (wrappingDifference (countsOf entry) (v c d)) placed hd b x hx
-      ∙ placed-day b x hb hx
+  yearly-row : (b r x : ℕ) → r < 4 → r ≢ sumRow → x < T → getD yearly (dayIndex T b r x) 0 ≡ getD put (dayIndex T b r x) 0
+  yearly-row b r x hr other hx =
+      raised-row T c d 365 (wrappingDifference (4294967296 * new) (4294967296 * v c d)) weekly hd b r x hr other hx
+      ∙ raised-row T c d 7 (wrappingDifference new (v c d)) put hd b r x hr other hx
+
+  yearly-has : (b x : ℕ) → b < C → x < T → Has yearly b x
+  yearly-has b x hb hx =
+      let has = put-has b x hb hx in
+      record {
+        day = yearly-row b dayRow x (omega arith) (λ e. omega arith) hx ∙ has .day;
+        tot = yearly-row b totRow x (omega arith) (λ e. omega arith) hx ∙ has .tot;
+        off = yearly-row b offRow x (omega arith) (λ e. omega arith) hx ∙ has .off;
+      }
 
   -- where the counts stay, all sums do
-  same-sum : v c d ≡ countsOf entry → (b x : ℕ) → sumsOf (v b) x ≡ sumsOf (v′ b) x
+  same-sum : v c d ≡ new → (b x : ℕ) → sumsOf (v b) x ≡ sumsOf (v′ b) x
   same-sum same b x =
       ap (λ u. sumsOf u x)
-      (fun-ext (λ y. ⊎-elim (λ at. rw (at .0, at .1, here) same) (λ other. ap countsOf (sym (there b y other))) (this-or-other b y c d)))
+      (fun-ext (λ y. ⊎-elim (λ at. rw (at .0, at .1, here) same) (λ other. sym (counts-there b y other)) (this-or-other b y c d)))
 
-  put-day : DaysAre T C e′ (putDay T c d entry days)
+  put-day : DaysAre T C e′ (putDay T c d entries days)
   unfolding putDay raisedSums
   put-day b x hb hx =
       rw (are c d hc hd .0)
-      (cases (eqb (v c d) (countsOf entry))
-      (λ q. rw q (placed-day b x hb hx, placed-sum b x hb hx ∙ same-sum (eqb-true (v c d) (countsOf entry) q) b x))
-      (λ q. rw q (yearly-day b x hb hx, yearly-sum b x hb hx)))
+      (cases (eqb (v c d) new)
+      (λ q. let has = put-has b x hb hx in rw q (has .day, sum-stands b x hb hx ∙ same-sum (eqb-true (v c d) new q) b x, has .tot, has .off))
+      (λ q. let has = yearly-has b x hb hx in rw q (has .day, yearly-sum b x hb hx, has .tot, has .off)))
 
 -- ---- a row's entry: each count has room in it, and it is not 0
 
@@ -341,7 +442,7 @@ module _ (P : ℕ) (h : P ≤ 96) (cells : ℕ → Cell) where
   unfolding countsOf dayEntryOf dayEntry
   day-counts = let f = fresh-most P cells in let b = blanks-most P cells in omega arith
 
-  pub day-few : Few (countsOf (dayEntryOf P cells))
+  day-few : Few (countsOf (dayEntryOf P cells))
   day-few = rw day-counts (let f = fresh-most P cells in let b = blanks-most P cells in omega arith)
 
   day-oldest : dayEntryOf P cells / 4294967296 % 65536 ≡ oldestAmong P cells
@@ -354,16 +455,20 @@ day-not-zero P cells e = omega arith
 
 -- ---- all of a date's days, put category by category
 
-pub kept-length : (T P d : ℕ) (row : List ℕ) (n : ℕ) (days : List ℕ) → length (keptDays T P d row n days) ≡ length days
+pub kept-length : (s : List ℕ) (d : ℕ) (row : List ℕ) (n : ℕ) (days : List ℕ) → length (keptDays s d row n days) ≡ length days
 unfolding keptDays
-kept-length T P d row zero days = refl
-kept-length T P d row (suc c) days = put-length T c d _ (keptDays T P d row c days) ∙ kept-length T P d row c days
+kept-length s d row zero days = refl
+kept-length s d row (suc c) days = put-length (datesOf s) c d _ (keptDays s d row c days) ∙ kept-length s d row c days
 
-module _ (T C P : ℕ) (h : P ≤ 96) (e e′ : ℕ → ℕ → ℕ) (d : ℕ) (row days : List ℕ) (are : DaysAre T C e days) (room : daysLength C T ≤ length days) (hd : d < T)
-    (few : (b y : ℕ) → Few (countsOf (e b y))) (here : (c : ℕ) → c < C → e′ c d ≡ dayEntryOf P (λ p. cellOfEntry (getD row (c * P + p) 0)))
-    (there : (b y : ℕ) → y ≢ d → e′ b y ≡ e b y) where
+pub entries-few : (s : List ℕ) → periodsOf s ≤ 96 → (c : ℕ) (cells : ℕ → Cell) → Few (countsOf (entriesFor s c cells .day))
+unfolding entriesFor dayEntriesOf
+entries-few s h c cells = day-few (periodsOf s) h cells
+
+module _ (s : List ℕ) (C : ℕ) (h : periodsOf s ≤ 96) (e e′ : ℕ → ℕ → DayEntries) (d : ℕ) (row days : List ℕ) (are : DaysAre (datesOf s) C e days)
+    (room : daysLength C (datesOf s) ≤ length days) (hd : d < datesOf s) (few : (b y : ℕ) → Few (countsOf (e b y .day)))
+    (here : (c : ℕ) → c < C → e′ c d ≡ entriesFor s c (λ p. cellOfEntry (getD row (c * periodsOf s + p) 0))) (there : (b y : ℕ) → y ≢ d → e′ b y ≡ e b y) where
   -- the entries after the first n categories: new for those, old for the others
-  after : ℕ → ℕ → ℕ → ℕ
+  after : ℕ → ℕ → ℕ → DayEntries
   after n b y = cond (ltb b n) (e′ b y) (e b y)
 
   after-new : (n b y : ℕ) → b < n → after n b y ≡ e′ b y
@@ -386,37 +491,55 @@ module _ (T C P : ℕ) (h : P ≤ 96) (e e′ : ℕ → ℕ → ℕ) (d : ℕ) (
       after-new (suc n) b y (omega arith) ∙ there b y (⊎-elim (λ o. absurd (o this)) (λ o. o) other) ∙ sym (after-old n b y l))
       (λ p. after-old (suc n) b y (lt-of-le-ne l (λ (q : n ≡ b). eqb-false b n p (sym q))) ∙ sym (after-old n b y l)))
 
-  after-few : (n : ℕ) → n ≤ C → (b y : ℕ) → Few (countsOf (after n b y))
+  after-few : (n : ℕ) → n ≤ C → (b y : ℕ) → Few (countsOf (after n b y .day))
   after-few n l b y =
       cases (ltb b n)
       (λ q.
       let m = ltb-true b n q in
       rw (after-new n b y m)
       (cases (eqb y d)
-      (λ p. rw (eqb-true y d p, here b (omega arith)) (day-few P h (λ p. cellOfEntry (getD row (b * P + p) 0))))
+      (λ p. rw (eqb-true y d p, here b (omega arith)) (entries-few s h b (λ p. cellOfEntry (getD row (b * periodsOf s + p) 0))))
       (λ p. rw (there b y (eqb-false y d p)) (few b y))))
       (λ q. rw (after-old n b y (ltb-false b n q)) (few b y))
 
-  kept-some : (n : ℕ) → n ≤ C → DaysAre T C (after n) (keptDays T P d row n days)
+  kept-some : (n : ℕ) → n ≤ C → DaysAre (datesOf s) C (after n) (keptDays s d row n days)
   unfolding keptDays
-  kept-some zero l = days-cong T C e (after 0) days (λ c y m k. sym (after-old 0 c y (omega arith))) are
+  kept-some zero l = days-cong (datesOf s) C e (after 0) days (λ c y m k. sym (after-old 0 c y (omega arith))) are
   kept-some (suc n) l =
-      put-day T C (after n) (after (suc n)) (keptDays T P d row n days) (kept-some n (omega arith))
-      (rw (kept-length T P d row n days) room) (after-few n (omega arith)) n d (dayEntryOf P (λ p. cellOfEntry (getD row (n * P + p) 0))) l hd
-      (day-few P h (λ p. cellOfEntry (getD row (n * P + p) 0)))
+      put-day (datesOf s) C (after n) (after (suc n)) (keptDays s d row n days) (kept-some n (omega arith))
+      (rw (kept-length s d row n days) room) (after-few n (omega arith)) n d (entriesFor s n (λ p. cellOfEntry (getD row (n * periodsOf s + p) 0))) l hd
+      (entries-few s h n (λ p. cellOfEntry (getD row (n * periodsOf s + p) 0)))
       (after-new (suc n) n d (omega arith) ∙ here n l)
       (after-next n)
 
-  pub kept-days : DaysAre T C e′ (keptDays T P d row C days)
-  kept-days = days-cong T C (after C) e′ (keptDays T P d row C days) (λ c y m k. after-new C c y m) (kept-some C (omega arith))
+  pub kept-days : DaysAre (datesOf s) C e′ (keptDays s d row C days)
+  kept-days = days-cong (datesOf s) C (after C) e′ (keptDays s d row C days) (λ c y m k. after-new C c y m) (kept-some C (omega arith))
 
 -- ---- what is read off the days is the coverage, recounted from the cells
 
-pub run-most : (run : ℕ → Bool) (n b : ℕ) (f : ℕ → ℕ) (d : ℕ) → ((y : ℕ) → f y ≤ b) → overRunDates run n f d ≤ n * b
+pub run-most : (run : ℕ → Bool) (n b : ℕ) (f : ℕ → ℕ) (d : ℕ) → ((y : ℕ) → y ≤ d → run y ≡ true → f y ≤ b) → overRunDates run n f d ≤ n * b
 unfolding overRunDates
 run-most run n b f d most =
     sumBelow-most n b (λ k. cond (leb k d && run (d - k)) (f (d - k)) 0)
-    (λ k l. let a = part-le (leb k d && run (d - k)) (f (d - k)) in let m = most (d - k) in omega arith)
+    (λ k l.
+    cases (leb k d)
+    (λ q. cases (run (d - k)) (λ r. rw (q, r) (most (d - k) (omega arith) r)) (λ r. rw (q, r) (omega arith)))
+    (λ q. rw q (omega arith)))
+
+-- a sum over dates of two numbers in one is the two sums in one
+module _ (run : ℕ → Bool) (v f g : ℕ → ℕ) (m d : ℕ) (is : (y : ℕ) → y ≤ d → v y ≡ cond (run y) (f y + g y * m) 0) where
+  term-is : (k : ℕ) → cond (leb k d) (v (d - k)) 0 ≡ cond (leb k d && run (d - k)) (f (d - k)) 0 + cond (leb k d && run (d - k)) (g (d - k)) 0 * m
+  term-is k =
+      cases (leb k d)
+      (λ q. rw (q, is (d - k) (omega arith)) (cases (run (d - k)) (λ r. rw r) (λ r. rw (r, zero-mul m))))
+      (λ q. rw (q, zero-mul m))
+
+  pub over-is : (n : ℕ) → over n v d ≡ overRunDates run n f d + overRunDates run n g d * m
+  unfolding over overRunDates
+  over-is n =
+      sumBelow-cong n _ _ (λ k l. term-is k)
+      ∙ sumBelow-plus n (λ k. cond (leb k d && run (d - k)) (f (d - k)) 0) (λ k. cond (leb k d && run (d - k)) (g (d - k)) 0 * m)
+      ∙ rw (sum-times n (λ k. cond (leb k d && run (d - k)) (g (d - k)) 0) m)
 
 -- four numbers of 16 bits in one of 64
 unpacked : (s a b c d : ℕ) → s ≡ a + b * 65536 + 4294967296 * (c + d * 65536) → a < 65536 → b < 65536 → c < 65536 → d < 65536 →
@@ -436,7 +559,7 @@ module _ (P : ℕ) (h : P ≤ 96) (run : ℕ → Bool) (cell : ℕ → ℕ → C
   blanks y = blanksAmong P (λ k. cell y (suc k))
 
   sum-fits : (n : ℕ) (f : ℕ → ℕ) → n ≤ 365 → ((y : ℕ) → f y ≤ P) → overRunDates run n f d < 65536
-  sum-fits n f l low = let most = run-most run n 96 f d (λ y. let few = low y in omega arith) in omega arith
+  sum-fits n f l low = let most = run-most run n 96 f d (λ y k r. let few = low y in omega arith) in omega arith
 
   fresh-fits : (n : ℕ) → n ≤ 365 → overRunDates run n fresh d < 65536
   fresh-fits n l = sum-fits n fresh l (λ y. fresh-most P (λ k. cell y (suc k)))
@@ -444,28 +567,16 @@ module _ (P : ℕ) (h : P ≤ 96) (run : ℕ → Bool) (cell : ℕ → ℕ → C
   blanks-fit : (n : ℕ) → n ≤ 365 → overRunDates run n blanks d < 65536
   blanks-fit n l = sum-fits n blanks l (λ y. blanks-most P (λ k. cell y (suc k)))
 
-  term-is : (k : ℕ) →
-      cond (leb k d) (countsOf (e (d - k))) 0
-      ≡ cond (leb k d && run (d - k)) (fresh (d - k)) 0 + cond (leb k d && run (d - k)) (blanks (d - k)) 0 * 65536
+  counts-are : (y : ℕ) → y ≤ d → countsOf (e y) ≡ cond (run y) (fresh y + blanks y * 65536) 0
   unfolding countsOf
-  term-is k =
-      cases (leb k d)
-      (λ q.
-      rw (q, are (d - k) (omega arith))
-      (cases (run (d - k)) (λ r. rw r (let counts = day-counts P h (λ i. cell (d - k) (suc i)) in omega arith)) (λ r. rw r)))
-      (λ q. rw q)
-
-  over-is : (n : ℕ) → over n (λ y. countsOf (e y)) d ≡ overRunDates run n fresh d + overRunDates run n blanks d * 65536
-  unfolding over overRunDates
-  over-is n =
-      sumBelow-cong n _ _ (λ k l. term-is k)
-      ∙ sumBelow-plus n (λ k. cond (leb k d && run (d - k)) (fresh (d - k)) 0) (λ k. cond (leb k d && run (d - k)) (blanks (d - k)) 0 * 65536)
-      ∙ rw (sum-times n (λ k. cond (leb k d && run (d - k)) (blanks (d - k)) 0) 65536)
+  counts-are y l =
+      rw (are y l) (cases (run y) (λ r. rw r (let counts = day-counts P h (λ i. cell y (suc i)) in omega arith)) (λ r. rw r))
 
   pub recounted : run d ≡ true → coverageOf (e d) (sumsOf (λ y. countsOf (e y)) d) ≡ coverageOn P run cell d
   unfolding coverageOf coverageOn sumsOf
   recounted r =
-      let sums = unpacked (sumsOf (λ y. countsOf (e y)) d) _ _ _ _ (rw (over-is 7, over-is 365)) (fresh-fits 7 (omega arith)) (blanks-fit 7 (omega arith)) (fresh-fits 365 (omega arith)) (blanks-fit 365 (omega arith)) in
+      let counts = over-is run (λ y. countsOf (e y)) fresh blanks 65536 d counts-are in
+      let sums = unpacked (sumsOf (λ y. countsOf (e y)) d) _ _ _ _ (rw (counts 7, counts 365)) (fresh-fits 7 (omega arith)) (blanks-fit 7 (omega arith)) (fresh-fits 365 (omega arith)) (blanks-fit 365 (omega arith)) in
       let here : e d ≡ dayEntryOf P (λ k. cell d (suc k)) = are d (omega arith) ∙ rw r in
       λ i.
       record {
@@ -482,9 +593,8 @@ over-none : (n x : ℕ) → over n (λ y. countsOf 0) x ≡ 0
 unfolding over countsOf
 over-none n x = sumBelow-none n _ (λ k l. cases (leb k x) (λ q. rw q) (λ q. rw q))
 
-pub none-are : (T C : ℕ) (days : List ℕ) → ((i : ℕ) → i < daysLength C T → getD days i 0 ≡ 0) → DaysAre T C (λ c x. 0) days
+pub none-are : (T C : ℕ) (days : List ℕ) → ((i : ℕ) → i < daysLength C T → getD days i 0 ≡ 0) → DaysAre T C (λ c x. notRunEntries) days
 unfolding sumsOf
-none-are T C days none c x hc hx = (
-  none (dayIndex T c x) (day-below T C c x hc hx),
-  none (sumIndex T c x) (sum-below T C c x hc hx) ∙ sym (rw (over-none 7 x, over-none 365 x)),
-)
+none-are T C days none c x hc hx =
+    let at : (r : ℕ) → r < 4 → getD days (dayIndex T c r x) 0 ≡ 0 = λ r l. none (dayIndex T c r x) (day-below T C c r x hc l hx) in
+    (at dayRow (omega arith), at sumRow (omega arith) ∙ sym (rw (over-none 7 x, over-none 365 x)), at totRow (omega arith), at offRow (omega arith))

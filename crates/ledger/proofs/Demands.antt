@@ -55,7 +55,7 @@ pub never-not-run : NeverNotRun
 unfolding ledgerAnswer ledgerCellCheck ledgerTotalsCheck ledgerCoverageCheck readCheck
 never-not-run l n d c j r = (
   rw r (no-14 (cellsShort (l .opening) n) (leb (dates (l .opening)) d) (cellInRange (categories (l .opening)) (periods (l .opening)) c j) (cellIs (cellAt l d c j)) (λ e. let z : _≡_ {A = ℕ} 0 1 = cc in omega arith)),
-  rw r (no-14 (cellsShort (l .opening) n) (leb (dates (l .opening)) d) (totalsInRange (categories (l .opening)) c) (totalsAre (totalsAt l d c)) (λ e. let z : _≡_ {A = ℕ} 0 1 = cc in omega arith)),
+  rw r (no-14 (daysShort (l .opening) n) (leb (dates (l .opening)) d) (totalsInRange (categories (l .opening)) c) (totalsAre (totalsAt l d c)) (λ e. let z : _≡_ {A = ℕ} 0 1 = cc in omega arith)),
   rw r (no-14 (daysShort (l .opening) n) (leb (dates (l .opening)) d) (totalsInRange (categories (l .opening)) c) (coverageIs (coverageAt l d c)) (λ e. let z : _≡_ {A = ℕ} 0 1 = cc in omega arith)),
 )
 

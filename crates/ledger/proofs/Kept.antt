@@ -11,15 +11,17 @@ use lib.Dec.{eqb}
 use lib.ListN.{length, getD}
 use borrow.Table.Steps.{cases}
 use borrow.Author.Tests.{eq-eqb, ne-eqb, eqb-true, eqb-false}
+use Rattle.metering.specs.Sum.{sumBelow}
+use Rattle.metering.specs.Calendar.{liesWithin, windowStart, windowEnd}
 use Rattle.ledger.specs.Method.{Fresh, absent, own, pooled, Cell, blank, ownCell, pooledCell, isOwnCell, carried, freshAmong, blanksAmong, oldestAmong, isFresh, isBlank}
 use Rattle.ledger.specs.Table.{tabulate}
 use Rattle.ledger.specs.Sizes.{daysLength}
-use Rattle.ledger.specs.Store.{categoriesOf, datesOf, periodsOf, rowLength, dayTypeOf, flagNumberOf, cellOfEntry, isRunAt, dayEntryOf, countsOf}
-use Rattle.ledger.specs.Calls.{freshAt, carriedEntry, rowEntry, rowAt, putRow, keptDays, Published, asPublished, publish, follows, lastRun, inheritedFrom, isOwn, followedEntry, inheritedBeyond, followRow, inheritedAfter, movedInRow, carryOn, settled, newRow, ranFrom}
+use Rattle.ledger.specs.Store.{durationOf, categoriesOf, datesOf, periodsOf, rowLength, categoryOf, dayTypeOf, flagNumberOf, cellOfEntry, isRunAt, DayEntries, notRunEntries, dayEntryOf, totEntry, totAmong, offAmong, dayEntriesOf, countsOf}
+use Rattle.ledger.specs.Calls.{freshAt, carriedEntry, rowEntry, rowAt, putRow, entriesFor, keptDays, Published, asPublished, publish, follows, lastRun, inheritedFrom, isOwn, followedEntry, inheritedBeyond, followRow, inheritedAfter, movedInRow, carryOn, settled, newRow, ranFrom}
 use Rattle.ledger.proofs.Lists.{sumBelow-cong, length-tabulate, getD-tabulate, block-below}
 use Rattle.ledger.proofs.Entries.{flag-some}
 use Rattle.ledger.proofs.Walks.{length-putRow, row-put, row-kept, carryOn-end, carryOn-pass, carryOn-stop, carryOn-go}
-use Rattle.ledger.proofs.Days.{Few, DaysAre, days-cong, kept-length, kept-days, day-few}
+use Rattle.ledger.proofs.Days.{Few, DaysAre, days-cong, kept-length, kept-days, entries-few}
 
 -- ---- what is alike has one day
 
@@ -28,7 +30,7 @@ unfolding oldestAmong
 oldest-cong zero f g h = refl
 oldest-cong (suc n) f g h = rw (oldest-cong n f g (λ k l. h k (omega arith)), h n (omega arith))
 
-pub day-cong : (P : ℕ) (f g : ℕ → Cell) → ((k : ℕ) → k < P → f k ≡ g k) → dayEntryOf P f ≡ dayEntryOf P g
+day-cong : (P : ℕ) (f g : ℕ → Cell) → ((k : ℕ) → k < P → f k ≡ g k) → dayEntryOf P f ≡ dayEntryOf P g
 unfolding dayEntryOf freshAmong blanksAmong
 day-cong P f g h =
     rw (
@@ -37,17 +39,32 @@ day-cong P f g h =
       oldest-cong P f g h,
     )
 
+pub entries-cong : (duration w P : ℕ) (f g : ℕ → Cell) → ((k : ℕ) → k < P → f k ≡ g k) → dayEntriesOf duration w P f ≡ dayEntriesOf duration w P g
+unfolding dayEntriesOf totAmong offAmong
+entries-cong duration w P f g h =
+    let tots : sumBelow P (λ k. f k .value) ≡ sumBelow P (λ k. g k .value) = sumBelow-cong P _ _ (λ k l. ap (λ (a : Cell). a .value) (h k l)) in
+    λ i.
+    record {
+      day = day-cong P f g h i;
+      tot = totEntry (tots i);
+      off = sumBelow-cong P (λ k. cond (liesWithin duration (windowStart w) (windowEnd w) (suc k)) (f k .value) 0) (λ k. cond (liesWithin duration (windowStart w) (windowEnd w) (suc k)) (g k .value) 0) (λ k l. ap (λ (a : Cell). cond (liesWithin duration (windowStart w) (windowEnd w) (suc k)) (a .value) 0) (h k l)) i;
+    }
+
+pub for-cong : (s : List ℕ) (c : ℕ) (f g : ℕ → Cell) → ((k : ℕ) → k < periodsOf s → f k ≡ g k) → entriesFor s c f ≡ entriesFor s c g
+unfolding entriesFor
+for-cong s c f g h = entries-cong _ _ _ f g h
+
 -- ---- a recount of the cells
 
--- the entry of category c and date x, where rows have n places and categories P periods
-unfoldable pub dayAt : ℕ → ℕ → List ℕ → ℕ → ℕ → ℕ
-dayAt n P cells c x = cond (isRunAt n cells x) (dayEntryOf P (λ p. cellOfEntry (rowAt n cells x (c * P + p)))) 0
+-- the entries of category c and date x, where rows have n places
+unfoldable pub dayAt : List ℕ → ℕ → List ℕ → ℕ → ℕ → DayEntries
+dayAt s n cells c x = cond (isRunAt n cells x) (entriesFor s c (λ p. cellOfEntry (rowAt n cells x (c * periodsOf s + p)))) notRunEntries
 
-day-at-few : (n P : ℕ) (cells : List ℕ) → P ≤ 96 → (c x : ℕ) → Few (countsOf (dayAt n P cells c x))
+day-at-few : (s : List ℕ) (n : ℕ) (cells : List ℕ) → periodsOf s ≤ 96 → (c x : ℕ) → Few (countsOf (dayAt s n cells c x .day))
 unfolding dayAt
-day-at-few n P cells h c x =
+day-at-few s n cells h c x =
     cases (isRunAt n cells x)
-    (λ r. rw r (day-few P h (λ p. cellOfEntry (rowAt n cells x (c * P + p)))))
+    (λ r. rw r (entries-few s h c (λ p. cellOfEntry (rowAt n cells x (c * periodsOf s + p)))))
     (λ r. rw r (unfold countsOf in (omega arith, omega arith)))
 
 -- ---- entries that say that a date is run
@@ -86,8 +103,11 @@ module _ (n : ℕ) (cells : List ℕ) (d : ℕ) (inherited : ℕ → ℕ) (k : �
 
 -- ---- one row
 
-module _ (T C P : ℕ) (few : P ≤ 96) (d : ℕ) (h : d < T) (row cells days : List ℕ) (long : length row ≡ C * P) (places : 0 < C * P)
-    (flagged : Flagged (getD row 0 0)) (room : T * (C * P) ≤ length cells) where
+module _ (s : List ℕ) (C : ℕ) (few : periodsOf s ≤ 96) (d : ℕ) (h : d < datesOf s) (row cells days : List ℕ) (long : length row ≡ C * periodsOf s)
+    (places : 0 < C * periodsOf s) (flagged : Flagged (getD row 0 0)) (room : datesOf s * (C * periodsOf s) ≤ length cells) where
+  abbrev P : ℕ
+  P = periodsOf s
+
   fits : d * (C * P) + C * P ≤ length cells
   fits = omega (arith, room, mul-le-mul-right (C * P) h)
 
@@ -107,45 +127,45 @@ module _ (T C P : ℕ) (few : P ≤ 96) (d : ℕ) (h : d < T) (row cells days : 
   run-kept x other = first-is put x ∙ rw (row-kept (C * P) d row cells long fits x 0 other places) (sym (first-is cells x))
 
   -- what a recount gives of the date that is put, and of another
-  entries : ℕ → ℕ → ℕ
-  entries c x = cond (eqb x d) (dayEntryOf P (λ p. cellOfEntry (getD row (c * P + p) 0))) (dayAt (C * P) P cells c x)
+  entries : ℕ → ℕ → DayEntries
+  entries c x = cond (eqb x d) (entriesFor s c (λ p. cellOfEntry (getD row (c * P + p) 0))) (dayAt s (C * P) cells c x)
 
-  entry-put : (c : ℕ) → entries c d ≡ dayEntryOf P (λ p. cellOfEntry (getD row (c * P + p) 0))
+  entry-put : (c : ℕ) → entries c d ≡ entriesFor s c (λ p. cellOfEntry (getD row (c * P + p) 0))
   unfolding entries
   entry-put c = rw (eq-eqb d d refl)
 
-  entry-kept : (c x : ℕ) → x ≢ d → entries c x ≡ dayAt (C * P) P cells c x
+  entry-kept : (c x : ℕ) → x ≢ d → entries c x ≡ dayAt s (C * P) cells c x
   unfolding entries
   entry-kept c x other = rw (ne-eqb x d other)
 
-  recount-is : (c x : ℕ) → c < C → x < T → entries c x ≡ dayAt (C * P) P put c x
+  recount-is : (c x : ℕ) → c < C → x < datesOf s → entries c x ≡ dayAt s (C * P) put c x
   unfolding put dayAt
   recount-is c x hc hx =
       cases (eqb x d)
       (λ q.
       rw (eqb-true x d q)
       (entry-put c
-      ∙ day-cong P _ (λ k. cellOfEntry (rowAt (C * P) put d (c * P + k))) (λ k l. ap cellOfEntry (sym (row-put (C * P) d row cells long fits (c * P + k) (block-below P C c k hc l))))
+      ∙ for-cong s c _ (λ k. cellOfEntry (rowAt (C * P) put d (c * P + k))) (λ k l. ap cellOfEntry (sym (row-put (C * P) d row cells long fits (c * P + k) (block-below P C c k hc l))))
       ∙ sym (rw run-put)))
       (λ q.
       let other : x ≢ d = eqb-false x d q in
       entry-kept c x other
-      ∙ ap (λ (a : ℕ). cond (isRunAt (C * P) cells x) a 0)
-      (day-cong P _ (λ k. cellOfEntry (rowAt (C * P) put x (c * P + k))) (λ k l. ap cellOfEntry (sym (row-kept (C * P) d row cells long fits x (c * P + k) other (block-below P C c k hc l)))))
+      ∙ ap (λ (a : DayEntries). cond (isRunAt (C * P) cells x) a notRunEntries)
+      (for-cong s c _ (λ k. cellOfEntry (rowAt (C * P) put x (c * P + k))) (λ k l. ap cellOfEntry (sym (row-kept (C * P) d row cells long fits x (c * P + k) other (block-below P C c k hc l)))))
       ∙ sym (rw (run-kept x other)))
 
-  row-keeps : DaysAre T C (dayAt (C * P) P cells) days → daysLength C T ≤ length days →
-      DaysAre T C (dayAt (C * P) P (putRow (C * P) d row cells)) (keptDays T P d row C days)
+  row-keeps : DaysAre (datesOf s) C (dayAt s (C * P) cells) days → daysLength C (datesOf s) ≤ length days →
+      DaysAre (datesOf s) C (dayAt s (C * P) (putRow (C * P) d row cells)) (keptDays s d row C days)
   unfolding put
   row-keeps are enough =
-      days-cong T C entries (dayAt (C * P) P put) (keptDays T P d row C days) recount-is
-      (kept-days T C P few (dayAt (C * P) P cells) entries d row days are enough h (day-at-few (C * P) P cells few) (λ c l. entry-put c) entry-kept)
+      days-cong (datesOf s) C entries (dayAt s (C * P) put) (keptDays s d row C days) recount-is
+      (kept-days s C few (dayAt s (C * P) cells) entries d row days are enough h (day-at-few s (C * P) cells few) (λ c l. entry-put c) entry-kept)
 
 -- ---- a run
 
 -- days of length L that are what a recount of the cells gives
 pub record KeptIn (s : List ℕ) (L : ℕ) (p : Published) : Type 0 where
-  pub are : DaysAre (datesOf s) (categoriesOf s) (dayAt (rowLength s) (periodsOf s) (p .cells)) (p .days)
+  pub are : DaysAre (datesOf s) (categoriesOf s) (dayAt s (rowLength s) (p .cells)) (p .days)
   pub as-long : length (p .days) ≡ L
   pub room : datesOf s * rowLength s ≤ length (p .cells)
 
@@ -153,10 +173,10 @@ module _ (s : List ℕ) (few : periodsOf s ≤ 96) (places : 0 < rowLength s) (L
   publish-keeps : (d : ℕ) (row : List ℕ) (p : Published) → d < datesOf s → length row ≡ rowLength s → Flagged (getD row 0 0) → KeptIn s L p → KeptIn s L (publish s d row p)
   unfolding rowLength
   publish-keeps d row p h long flagged k =
-      let here = fits (datesOf s) (categoriesOf s) (periodsOf s) few d h row (p .cells) (p .days) long places flagged (k .room) in
+      let here = fits s (categoriesOf s) few d h row (p .cells) (p .days) long places flagged (k .room) in
       record {
-        are = row-keeps (datesOf s) (categoriesOf s) (periodsOf s) few d h row (p .cells) (p .days) long (unfold rowLength in places) flagged (k .room) (k .are) (rw (k .as-long) enough);
-        as-long = kept-length (datesOf s) (periodsOf s) d row (categoriesOf s) (p .days) ∙ k .as-long;
+        are = row-keeps s (categoriesOf s) few d h row (p .cells) (p .days) long (unfold rowLength in places) flagged (k .room) (k .are) (rw (k .as-long) enough);
+        as-long = kept-length s d row (categoriesOf s) (p .days) ∙ k .as-long;
         room = rw (length-putRow (rowLength s) d row (p .cells) long here) (k .room);
       }
 

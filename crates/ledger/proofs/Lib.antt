@@ -6,6 +6,7 @@ pub mod Entries
 pub mod Columns
 pub mod Walks
 pub mod Days
+mod Totals
 pub mod Kept
 pub mod Rows
 pub mod Relation

@@ -20,7 +20,7 @@ use Rattle.ledger.specs.Ledger.{Opening, categories, dates, periods, cat
 use Rattle.ledger.specs.Engine.{Every}
 use Rattle.ledger.specs.Demands.{SameKey, SameFamily, OnSide, SideExact, Paired, NetExact, OwnGroupPair, signedTotal, NetTotIsSum, NetOfTotals, OwnGroupNetOfTotals, MarkExact, NothingNetsToZero, SidesExchanged}
 use Rattle.ledger.proofs.FirstFailed.{finds-none, finds-row, goes-by}
-use Rattle.ledger.proofs.CallDemands.{not-iff, date-iff, below-iff, lists-iff, ran-iff, keys-differ, family-iff}
+use Rattle.ledger.proofs.CallDemands.{not-iff, date-iff, below-iff, net-lists-iff, ran-iff, keys-differ, family-iff}
 use Rattle.ledger.proofs.Lists.{tabulate-at, getD-tabulate, tabulate-ext}
 use Rattle.ledger.proofs.Chosen.{chosen-pass, chosen-none}
 use Rattle.ledger.proofs.Nets.{sumOver-append, sumOver-one, anyOf-append, tot-minus, tot7-minus, period-swapped, tot-swapped, tot7-swapped, mark-swapped}
@@ -327,7 +327,7 @@ pub net-exact : NetExact
 unfolding ledgerAnswer ledgerNetCheck netCheck totalsInRange
 net-exact l n a =
     goes-by (ledgerNetCheck l n a) _ refl
-    (finds-row refl (lists-iff (l .opening) n (a .numbers) (a .marks))
+    (finds-row refl (net-lists-iff (l .opening) n (a .numbers) (a .marks))
     (finds-row refl (date-iff (dates (l .opening)) (a .date))
     (finds-row refl (not-iff _ (below-iff (categories (l .opening)) (a .category)))
     (finds-row refl (not-iff _ (net-iff (l .opening) (a .allGroups) (a .category)))

@@ -1,5 +1,5 @@
 -- Laws of nets (change request 2026-13): sums over lists of categories, differences of sums, and what two readers of the same cells find.
-use Prim.Native.Nat.{ℕ, zero, suc, _+_, _-_, _≤_, _<_}
+use Prim.Native.Nat.{ℕ, zero, suc, _+_, _-_, _<_}
 use mathlib.Core.Path.{_≡_, refl, sym, ap, ap₂, _∙_}
 use mathlib.Core.Bool.{Bool, true, false, _&&_, _||_, cond}
 use mathlib.Core.List.{List, [], _∷_, _++_}
@@ -11,9 +11,9 @@ use borrow.Table.Steps.{cases}
 use Rattle.metering.specs.Sum.{sumBelow}
 use Rattle.ledger.specs.Method.{Cell, overRunDates}
 use Rattle.ledger.specs.Table.{tabulate}
-use Rattle.ledger.specs.Net.{sumOver, anyOf, signedSum, isN, netPeriod, markOf, netTot, netTot7, netOn}
+use Rattle.ledger.specs.Net.{sumOver, anyOf, signedSum, isN, netPeriod, markOf, netTot, netTot7}
 use Rattle.ledger.specs.Engine.{Every}
-use Rattle.ledger.proofs.Lists.{sumBelow-cong, sumBelow-none, sumBelow-plus, tabulate-ext}
+use Rattle.ledger.proofs.Lists.{sumBelow-cong, sumBelow-none, sumBelow-plus}
 use Rattle.ledger.proofs.Chosen.{every-append}
 
 -- ---- differences
@@ -56,7 +56,7 @@ unfolding sumOver
 sumOver-append [] ds f = sym (zero-add (sumOver ds f))
 sumOver-append (c ∷ cs) ds f = let h = sumOver-append cs ds f in omega arith
 
-sumOver-cong : (cs : List ℕ) (f g : ℕ → ℕ) (P : ℕ → Type 0) → Every P cs → ((c : ℕ) → P c → f c ≡ g c) → sumOver cs f ≡ sumOver cs g
+pub sumOver-cong : (cs : List ℕ) (f g : ℕ → ℕ) (P : ℕ → Type 0) → Every P cs → ((c : ℕ) → P c → f c ≡ g c) → sumOver cs f ≡ sumOver cs g
 unfolding sumOver
 sumOver-cong [] f g P all h = refl
 sumOver-cong (c ∷ cs) f g P all h = rw (h c (all .0), sumOver-cong cs f g P (all .1) h)
@@ -185,48 +185,24 @@ module _ (periods : ℕ) (isRun : ℕ → Bool) (cell : ℕ → ℕ → ℕ → 
       ∙ or-swapped (anyOf exports (λ c. isN (cell d c j .flag))) (anyOf imports (λ c. isN (cell d c j .flag)))
       ∙ sym (anyOf-append imports exports (λ c. isN (cell d c j .flag))))
 
--- ---- nets of cells that are alike on run dates
+-- ---- nets of a date whose cells are alike
 
 module _ (periods : ℕ) (run run′ : ℕ → Bool) (cell cell′ : ℕ → ℕ → ℕ → Cell) (C : ℕ) (imports exports : List ℕ) (low : Every (λ c. c < C) imports) (high : Every (λ c. c < C) exports)
-    (d : ℕ) (same : (x : ℕ) → x ≤ d → run x ≡ run′ x)
-    (alike : (x c k : ℕ) → x ≤ d → c < C → run x ≡ true → k < periods → cell x c (suc k) ≡ cell′ x c (suc k)) where
-  side-cong : (side : List ℕ) → Every (λ c. c < C) side → (x k : ℕ) → x ≤ d → run x ≡ true → k < periods →
-      sumOver side (λ c. cell x c (suc k) .value) ≡ sumOver side (λ c. cell′ x c (suc k) .value)
-  side-cong side all x k h r l = sumOver-cong side _ _ (λ c. c < C) all (λ c m. ap (λ a. a .value) (alike x c k h m r l))
+    (d : ℕ) (alike : (c k : ℕ) → c < C → k < periods → cell d c (suc k) ≡ cell′ d c (suc k)) where
+  side-cong : (side : List ℕ) → Every (λ c. c < C) side → (k : ℕ) → k < periods →
+      sumOver side (λ c. cell d c (suc k) .value) ≡ sumOver side (λ c. cell′ d c (suc k) .value)
+  side-cong side all k l = sumOver-cong side _ _ (λ c. c < C) all (λ c m. ap (λ a. a .value) (alike c k m l))
 
-  period-cong : (x k : ℕ) → x ≤ d → run x ≡ true → k < periods →
-      netPeriod periods run cell imports exports x (suc k) ≡ netPeriod periods run′ cell′ imports exports x (suc k)
+  pub period-cong : (k : ℕ) → k < periods → netPeriod periods run cell imports exports d (suc k) ≡ netPeriod periods run′ cell′ imports exports d (suc k)
   unfolding netPeriod
-  period-cong x k h r l = ap₂ (λ a b. pos a -ℤ pos b) (side-cong imports low x k h r l) (side-cong exports high x k h r l)
+  period-cong k l = ap₂ (λ a b. pos a -ℤ pos b) (side-cong imports low k l) (side-cong exports high k l)
 
-  tot-cong : (x : ℕ) → x ≤ d → run x ≡ true → netTot periods run cell imports exports x ≡ netTot periods run′ cell′ imports exports x
+  pub tot-cong : netTot periods run cell imports exports d ≡ netTot periods run′ cell′ imports exports d
   unfolding netTot
-  tot-cong x h r = signed-cong periods _ _ (λ k l. period-cong x k h r l)
+  tot-cong = signed-cong periods _ _ period-cong
 
-  tot7-cong : netTot7 periods run cell imports exports d ≡ netTot7 periods run′ cell′ imports exports d
-  unfolding netTot7
-  tot7-cong =
-      signed-cong 7 _ _
-      (λ k l.
-      cases (leb k d)
-      (λ q.
-      let below : d - k ≤ d = omega arith in
-      rw (q, ← (same (d - k) below)) (cases (run (d - k)) (λ w. rw (w, tot-cong (d - k) below w)) (λ w. rw w)))
-      (λ q. rw q))
-
-  mark-cong : (k : ℕ) → run d ≡ true → k < periods → markOf periods run cell imports exports d (suc k) ≡ markOf periods run′ cell′ imports exports d (suc k)
+  pub mark-cong : (k : ℕ) → k < periods → markOf periods run cell imports exports d (suc k) ≡ markOf periods run′ cell′ imports exports d (suc k)
   unfolding markOf
-  mark-cong k r l =
+  mark-cong k l =
       ap (λ b. cond b 1 0)
-      (anyOf-cong (imports ++ exports) _ _ (λ c. c < C) (every-append (λ c. c < C) imports exports low high) (λ c m. ap (λ a. isN (a .flag)) (alike d c k (omega arith) m r l)))
-
-  pub net-cong : run d ≡ true → netOn periods run cell imports exports d ≡ netOn periods run′ cell′ imports exports d
-  unfolding netOn
-  net-cong r =
-      λ i.
-      record {
-        tot = tot-cong d (omega arith) r i;
-        tot7 = tot7-cong i;
-        periods = tabulate-ext periods _ _ (λ k l. period-cong d k (omega arith) r l) i;
-        marks = tabulate-ext periods _ _ (λ k l. mark-cong k r l) i;
-      }
+      (anyOf-cong (imports ++ exports) _ _ (λ c. c < C) (every-append (λ c. c < C) imports exports low high) (λ c m. ap (λ a. isN (a .flag)) (alike c k m l)))

@@ -9,10 +9,11 @@ use lib.Seq.{length-front}
 use Rattle.ledger.specs.Method.{Picture}
 use Rattle.ledger.specs.Sizes.{metersLength, readingsLength, cellsLength, daysLength}
 use Rattle.ledger.specs.Ledger.{Opening, categories, dates, periods, Meter, Lengths}
+use Rattle.ledger.specs.Store.{dayRow, sumRow, totRow, offRow, dayIndex}
 use Rattle.ledger.specs.Calls.{rowAt}
 use Rattle.ledger.specs.Engine.{Parts, cut, restored, cutLengths, lengthsOf}
 use Rattle.ledger.proofs.Lists.{getD-cut, getD-back, block-below}
-use Rattle.ledger.proofs.Days.{day-below, sum-below}
+use Rattle.ledger.proofs.Days.{day-below}
 use Rattle.ledger.proofs.Relation.{MeterAt, FreeAt, MetersAgree, HeldAt, NotHeldAt, ReadingsAgree, CellsAgree, DaysAgree}
 use Rattle.ledger.proofs.Slots.{slots-kept}
 use Rattle.ledger.proofs.Registrations.{meter-stands, free-stands, slots-alike}
@@ -81,10 +82,13 @@ module _ (o : Opening) where
         long = λ d a. a .long;
         alike = λ d d′ a same long.
             record {
-              are = λ c x h l. (
-                same _ (day-below (dates o) (categories o) c x h l) ∙ a .are c x h l .0,
-                same _ (sum-below (dates o) (categories o) c x h l) ∙ a .are c x h l .1,
-              );
+              are = λ c x h l.
+                  let stands : (r : ℕ) → r < 4 → getD d′ (dayIndex (dates o) c r x) 0 ≡ getD d (dayIndex (dates o) c r x) 0 = λ r m. same _ (day-below (dates o) (categories o) c r x h m l) in (
+                    stands dayRow (omega arith) ∙ a .are c x h l .0,
+                    stands sumRow (omega arith) ∙ a .are c x h l .1,
+                    stands totRow (omega arith) ∙ a .are c x h l .2,
+                    stands offRow (omega arith) ∙ a .are c x h l .3,
+                  );
               long = long;
             };
       }

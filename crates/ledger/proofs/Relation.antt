@@ -10,7 +10,7 @@ use Rattle.ledger.specs.Method.{Category, ReadingSet, Picture, wattHours
 use Rattle.ledger.specs.Checks.{Registration}
 use Rattle.ledger.specs.Sizes.{settingsLength, metersLength, readingsLength, cellsLength, daysLength}
 use Rattle.ledger.specs.Ledger.{Opening, categories, dates, periods, category, dayType, Meter, Ledger, isHeld, cellBy, isPicture}
-use Rattle.ledger.specs.Store.{durationOf, metersOf, categoriesOf, datesOf, categoryOf, dayTypeOf, mpanAt, registrationAt, registrationsAt, isHeldAt, readingAt, dayEntryOf}
+use Rattle.ledger.specs.Store.{durationOf, metersOf, categoriesOf, datesOf, categoryOf, dayTypeOf, mpanAt, registrationAt, registrationsAt, isHeldAt, readingAt, DayEntries, notRunEntries, dayEntriesOf}
 use Rattle.ledger.proofs.Rows.{CellsAre}
 use Rattle.ledger.proofs.Days.{DaysAre}
 
@@ -115,9 +115,10 @@ pub record CellsAgree (o : Opening) (cells : List ℕ) (pictures : ℕ → Optio
 
 -- ---- days
 
--- the entry of category c and date d that a recount of the ledger's cells gives; a date not run has 0
-unfoldable pub dayBy : Opening → (ℕ → Option Picture) → ℕ → ℕ → ℕ
-dayBy o pictures c d = cond (isPicture (pictures d)) (dayEntryOf (periods o) (λ k. cellBy o pictures d c (suc k))) 0
+-- the entries of category c and date d that the ledger's cells give; a date not run has none
+unfoldable pub dayBy : Opening → (ℕ → Option Picture) → ℕ → ℕ → DayEntries
+dayBy o pictures c d =
+    cond (isPicture (pictures d)) (dayEntriesOf (o .duration) (category o c .window) (periods o) (λ k. cellBy o pictures d c (suc k))) notRunEntries
 
 -- kept = recounted
 pub record DaysAgree (o : Opening) (days : List ℕ) (pictures : ℕ → Option Picture) : Type 0 where

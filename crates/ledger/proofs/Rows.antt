@@ -15,7 +15,7 @@ use borrow.Author.Tests.{eq-eqb, ne-eqb, eqb-true, eqb-false, leb-true, leb-fals
 use Rattle.metering.specs.Sum.{sumBelow, sumBelow-suc}
 use Rattle.ledger.specs.Method.{Fresh, Cell, blank, carried, cellFrom, movedCell, Day, latest, cellOn}
 use Rattle.ledger.specs.Table.{tabulate}
-use Rattle.ledger.specs.Store.{categoriesOf, datesOf, periodsOf, rowLength, dayTypeOf, entryOf, flagNumberOf, isRunAt}
+use Rattle.ledger.specs.Store.{categoriesOf, datesOf, rowLength, dayTypeOf, entryOf, flagNumberOf, isRunAt}
 use Rattle.ledger.specs.Calls.{carriedEntry, rowEntry, rowAt, putRow, Published, asPublished, publish, keptDays, follows, lastRun, inheritedFrom, comparedEntry, differing, Ran, followedEntry, inheritedBeyond, followRow, inheritedAfter, movedInRow, carryOn, movedByRow, settled}
 use Rattle.ledger.proofs.Lists.{below-suc, length-tabulate, getD-tabulate, sumBelow-cong, sumBelow-none, none-of-sum, sumBelow-more}
 use Rattle.ledger.proofs.Entries.{Small, SmallFresh, flag-some, entry-some, moved-entry, unmoved, moved-same, carry-entry, row-entry, follow-entry, over-entry}
@@ -406,5 +406,5 @@ module _ (s : List ℕ) (n T : ℕ) (dt : ℕ → ℕ) (places : 0 < n) (few : T
       pub run-good : (days : List ℕ) → RunLeaves n T dt runO runN freshO freshN L (settled publish s new (asPublished cells days) date)
       unfolding movedOn cellO cellN settled movedByRow
       run-good days =
-          let good = ran-good (keptDays T (periodsOf s) date (tabulate n new) (categoriesOf s) days) in
+          let good = ran-good (keptDays s date (tabulate n new) (categoriesOf s) days) in
           rw (rowIs, types date h, datesAre) (record { cells-are = good .cells-are; moved-is = good .moved-is; as-long = good .as-long })

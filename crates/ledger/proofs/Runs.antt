@@ -18,11 +18,11 @@ use Rattle.ledger.specs.Checks.{Registration, later, inForceAfter, inFor
 use Rattle.ledger.specs.Sizes.{cellsLength}
 use Rattle.ledger.specs.Ledger.{Opening, categories, dates, periods, category, dayType, Meter, Ledger, at, dayOf, cellBy, isPicture, heldSetsOf, pictureOf, movedBetween}
 use Rattle.ledger.specs.Store.{periodsOf, rowLength, categoryOf, cellOfEntry, isRunAt}
-use Rattle.ledger.specs.Calls.{familyTally, freshAt, rowEntry, rowAt, lastRun, inheritedFrom, newRow, ranFrom, asPublished}
+use Rattle.ledger.specs.Calls.{familyTally, freshAt, entriesFor, rowEntry, rowAt, lastRun, inheritedFrom, newRow, ranFrom, asPublished}
 use Rattle.ledger.proofs.Days.{days-cong}
-use Rattle.ledger.proofs.Kept.{day-cong, dayAt, KeptIn, ran-keeps}
+use Rattle.ledger.proofs.Kept.{entries-cong, dayAt, KeptIn, ran-keeps}
 use Rattle.ledger.proofs.Lists.{sumBelow-cong, sumBelow-rows, block-below}
-use Rattle.ledger.proofs.Entries.{SmallFresh, cell-entry}
+use Rattle.ledger.proofs.Entries.{Small, SmallFresh, cell-entry}
 use Rattle.ledger.proofs.Columns.{dayIf, cell-small}
 use Rattle.ledger.proofs.Rows.{columnCell, run-at, RunLeaves, run-good}
 use Rattle.ledger.proofs.Relation.{Valid, SoundRegistrations, SoundMeters, SoundPicture, SettingsAgree, MetersAgree, ReadingsAgree, shapeOf, shapes, CellsAgree, dayBy, DaysAgree, Sound}
@@ -144,6 +144,17 @@ shapes-small o pictures sound k x = go (pictures x) refl
     go none e = tt
     go (some p) e = picture-small (categories o) (category o) p (sound x p e .0) (sound x p e .1) (k / periods o) (suc (k % periods o))
 
+module _ (o : Opening) (pictures : ℕ → Option Picture) (valid : Valid o)
+    (sound : (d : ℕ) (p : Picture) → pictures d ≡ some p → SoundPicture (categories o) p × (length p ≤ 1024)) where
+  -- a column's cell has room
+  column-small : (d k : ℕ) → d < dates o → Small (columnCell (dayType o) (λ x. isPicture (pictures x)) (shapes o pictures) k d)
+  column-small d k hd =
+      let t = valid .dates-are in
+      cell-small (dayType o) (λ x. isPicture (pictures x)) (shapes o pictures k) (shapes-small o pictures sound k) d (omega arith)
+
+  pub value-small : (d c k : ℕ) → d < dates o → k < periods o → cellBy o pictures d c (suc k) .value < 4294967296
+  value-small d c k hd hk = rw (column-is o pictures c k d hk) at (column-small d (c * periods o + k) hd .value)
+
 -- ---- a recount of the store's cells is one of the ledger's
 
 module _ (o : Opening) (s cells : List ℕ) (agree : SettingsAgree o s) (pictures : ℕ → Option Picture) (valid : Valid o)
@@ -166,19 +177,17 @@ module _ (o : Opening) (s cells : List ℕ) (agree : SettingsAgree o s) (picture
   pub entry-is : (d c k : ℕ) → d < dates o → c < categories o → k < periods o → isPicture (pictures d) ≡ true →
       cellOfEntry (rowAt (categories o * periods o) cells d (c * periods o + k)) ≡ cellBy o pictures d c (suc k)
   entry-is d c k hd hc hk r =
-      let t = valid .dates-are in
       let place = c * periods o + k in
       ap cellOfEntry (cellsAgree .are d place hd (block-below (periods o) (categories o) c k hc hk) ∙ rw r)
-      ∙ cell-entry (columnCell (dayType o) (λ x. isPicture (pictures x)) (shapes o pictures) place d)
-      (cell-small (dayType o) (λ x. isPicture (pictures x)) (shapes o pictures place) (shapes-small o pictures sound place) d (omega arith))
+      ∙ cell-entry (columnCell (dayType o) (λ x. isPicture (pictures x)) (shapes o pictures) place d) (column-small o pictures valid sound d place hd)
       ∙ column-is o pictures c k d hk
 
-  recount-is : (c d : ℕ) → c < categories o → d < dates o → dayAt (rowLength s) (periodsOf s) cells c d ≡ dayBy o pictures c d
-  unfolding dayAt dayBy periodsOf
+  recount-is : (c d : ℕ) → c < categories o → d < dates o → dayAt s (rowLength s) cells c d ≡ dayBy o pictures c d
+  unfolding dayAt dayBy entriesFor periodsOf
   recount-is c d hc hd =
       rw (ran-is d hd)
       (cases (isPicture (pictures d))
-      (λ r. rw (r, agree .duration, row-length) (day-cong (periods o) _ _ (λ k l. entry-is d c k hd hc l r)))
+      (λ r. rw (r, agree .duration, agree .records c hc, row-length) (entries-cong (o .duration) (category o c .window) (periods o) _ _ (λ k l. entry-is d c k hd hc l r)))
       (λ r. rw r))
 
 -- ---- a run

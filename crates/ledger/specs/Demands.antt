@@ -267,7 +267,7 @@ abbrev pub TotalsExact : Type 0
 TotalsExact =
     (l : Ledger) (n : Lengths) (d c : ℕ) →
     GoesBy
-    (row 1 (CellsLong (l .opening) n) ∷ row 9 (d < dates (l .opening)) ∷ row 15 (c < categories (l .opening)) ∷ row 14 (HasPicture l d) ∷ [])
+    (row 1 (DaysLong (l .opening) n) ∷ row 9 (d < dates (l .opening)) ∷ row 15 (c < categories (l .opening)) ∷ row 14 (HasPicture l d) ∷ [])
     (totalsAre (totalsAt l d c))
     (ledgerAnswer l n (readTotals d c))
 
@@ -531,7 +531,7 @@ NetExact =
     (l : Ledger) (n : Lengths) (a : NetCall) →
     let o = l .opening in
     GoesBy
-    (row 1 (CellsLong o n × (periods o ≤ a .numbers) × (periods o ≤ a .marks))
+    (row 1 (DaysLong o n × CellsLong o n × (periods o ≤ a .numbers) × (periods o ≤ a .marks))
     ∷ row 9 (a .date < dates o)
     ∷ row 15 (a .category < categories o)
     ∷ row 26 (Paired o (a .allGroups) (a .category))
@@ -611,7 +611,7 @@ SidesExchanged =
 abbrev pub BandAnswer : Type 0
 BandAnswer =
     (l : Ledger) (n : Lengths) (a : BandCall) →
-    GoesBy (row 1 (CellsLong (l .opening) n) ∷ row 15 (a .category < categories (l .opening)) ∷ []) (bandIs (bandAt l a)) (ledgerAnswer l n (searchBand a))
+    GoesBy (row 1 (DaysLong (l .opening) n) ∷ row 15 (a .category < categories (l .opening)) ∷ []) (bandIs (bandAt l a)) (ledgerAnswer l n (searchBand a))
 
 -- what it takes for a date to be found
 pub record InBand (l : Ledger) (a : BandCall) (d : ℕ) : Type 0 where

@@ -4,7 +4,7 @@ use mathlib.Core.Path.{_≡_}
 use mathlib.Core.List.{List, [], _∷_, _++_}
 use lib.ListN.{length, getD, take, drop}
 use Rattle.ledger.specs.Ledger.{Opening, Ledger, start, Call, register, receive, run, readTotals, readCell, readNet, searchBand, fillHole, readCoverage, Answer, accepted, moved, totalsAre, cellIs, netIs, bandIs, filledAre, coverageIs, answer, left, Lengths, ledgerAnswer, ledgerAfter}
-use Rattle.ledger.specs.Calls.{openingVerdict, openedSettings, openedMeters, openedReadings, openedCells, openedDays, registrationVerdict, registeredMeters, receptionVerdict, receivedReadings, runVerdict, Published, ranFrom, totalsVerdict, totalsFor, cellVerdict, cellFor, netVerdict, netFor, bandVerdict, bandFor, fillVerdict, fillFor, coverageVerdict, coverageFor}
+use Rattle.ledger.specs.Calls.{openingVerdict, openedSettings, openedMeters, openedReadings, openedCells, openedDays, registrationVerdict, registeredMeters, receptionVerdict, receivedReadings, runVerdict, Published, ranFrom, dayVerdict, totalsFor, cellVerdict, cellFor, netVerdict, netFor, bandVerdict, bandFor, fillVerdict, fillFor, coverageFor}
 
 -- the parts of a store
 pub record Parts : Type 0 where
@@ -21,12 +21,12 @@ callAnswer p (receive a) = answer (receptionVerdict (p .settings) (p .meters) (p
 callAnswer p (run d) =
     answer (runVerdict (p .settings) (p .meters) (p .readings) (p .cells) (p .days) d)
     (moved (ranFrom (p .settings) (p .meters) (p .readings) (p .cells) (p .days) d .moved))
-callAnswer p (readTotals d c) = answer (totalsVerdict (p .settings) (p .cells) d c) (totalsAre (totalsFor (p .settings) (p .cells) d c))
+callAnswer p (readTotals d c) = answer (dayVerdict (p .settings) (p .days) d c) (totalsAre (totalsFor (p .settings) (p .days) d c))
 callAnswer p (readCell d c j) = answer (cellVerdict (p .settings) (p .cells) d c j) (cellIs (cellFor (p .settings) (p .cells) d c j))
-callAnswer p (readNet a) = answer (netVerdict (p .settings) (p .cells) a) (netIs (netFor (p .settings) (p .cells) a))
-callAnswer p (searchBand a) = answer (bandVerdict (p .settings) (p .cells) a) (bandIs (bandFor (p .settings) (p .cells) a))
+callAnswer p (readNet a) = answer (netVerdict (p .settings) (p .cells) (p .days) a) (netIs (netFor (p .settings) (p .cells) (p .days) a))
+callAnswer p (searchBand a) = answer (bandVerdict (p .settings) (p .days) a) (bandIs (bandFor (p .settings) (p .days) a))
 callAnswer p (fillHole a) = answer (fillVerdict (p .settings) (p .cells) a) (filledAre (fillFor (p .settings) (p .cells) a))
-callAnswer p (readCoverage d c) = answer (coverageVerdict (p .settings) (p .days) d c) (coverageIs (coverageFor (p .settings) (p .days) d c))
+callAnswer p (readCoverage d c) = answer (dayVerdict (p .settings) (p .days) d c) (coverageIs (coverageFor (p .settings) (p .days) d c))
 
 -- parts with what a registration, a reception or a run writes
 abbrev pub withMeters : List ℕ → Parts → Parts

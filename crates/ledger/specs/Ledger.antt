@@ -92,11 +92,11 @@ unfoldable pub metersShort : Opening → Lengths → Bool
 metersShort o n =
     settingsShort o n || ltb (n .meters) (metersLength (o .meters)) || ltb (n .readings) (readingsLength (o .meters) (dates o) (periods o))
 
--- all reads but the coverage read are lent settings and cells
+-- the cell read and the fill are lent settings and cells, the net read days as well
 unfoldable pub cellsShort : Opening → Lengths → Bool
 cellsShort o n = settingsShort o n || ltb (n .cells) (cellsLength (categories o) (dates o) (periods o))
 
--- the coverage read is lent settings and days
+-- the reads of totals and coverage and the band search are lent settings and days
 unfoldable pub daysShort : Opening → Lengths → Bool
 daysShort o n = settingsShort o n || ltb (n .days) (daysLength (categories o) (dates o))
 
@@ -229,7 +229,7 @@ movedBetween o before after =
 
 unfoldable pub ledgerTotalsCheck : Ledger → Lengths → ℕ → ℕ → Verdict
 ledgerTotalsCheck l n d c =
-    verdict (readCheck (cellsShort (l .opening) n) (dates (l .opening)) d (totalsInRange (categories (l .opening)) c) (isRun l d))
+    verdict (readCheck (daysShort (l .opening) n) (dates (l .opening)) d (totalsInRange (categories (l .opening)) c) (isRun l d))
 
 unfoldable pub ledgerCellCheck : Ledger → Lengths → ℕ → ℕ → ℕ → Verdict
 ledgerCellCheck l n d c j =
@@ -243,7 +243,8 @@ totalsAt l d c =
 unfoldable pub ledgerNetCheck : Ledger → Lengths → NetCall → Verdict
 ledgerNetCheck l n a =
     verdict
-    (netCheck (cellsShort (l .opening) n || listsShort (periods (l .opening)) (a .numbers) (a .marks)) (dates (l .opening)) (a .date)
+    (netCheck (daysShort (l .opening) n || (cellsShort (l .opening) n || listsShort (periods (l .opening)) (a .numbers) (a .marks)))
+    (dates (l .opening)) (a .date)
     (totalsInRange (categories (l .opening)) (a .category))
     (mayNet (category (l .opening)) (categories (l .opening)) (a .allGroups) (a .category))
     (isRun l (a .date)))
@@ -258,7 +259,7 @@ netAt l a =
 
 -- a band search has no date: 9 and 14 are none of its checks
 unfoldable pub ledgerBandCheck : Ledger → Lengths → BandCall → Verdict
-ledgerBandCheck l n a = verdict (bandCheck (cellsShort (l .opening) n) (totalsInRange (categories (l .opening)) (a .category)))
+ledgerBandCheck l n a = verdict (bandCheck (daysShort (l .opening) n) (totalsInRange (categories (l .opening)) (a .category)))
 
 unfoldable pub bandAt : Ledger → BandCall → Band
 bandAt l a = bandOn (dates (l .opening)) (isRun l) (dayType (l .opening)) (λ d. totalsAt l d (a .category) .tot) a

@@ -21,6 +21,6 @@ readingsLength M T P = T * M * (1 + P)
 unfoldable pub cellsLength : ℕ → ℕ → ℕ → ℕ
 cellsLength C T P = T * (C * P)
 
--- for each category a row of entries for the dates, and a row of sums
+-- for each category four rows, each with an entry for a date
 unfoldable pub daysLength : ℕ → ℕ → ℕ
-daysLength C T = C * (2 * T)
+daysLength C T = 4 * C * T

@@ -7,8 +7,10 @@ use lib.Dec.{leb, ltb, eqb}
 use lib.ListN.{length, getD, set, drop}
 use lib.Seq.{sets}
 use Rattle.metering.specs.Range.{metersInRange, categoriesInRange, datesInRange}
-use Rattle.metering.specs.Calendar.{durationKnown, periodsPerDay}
-use Rattle.ledger.specs.Method.{Category, categoryAt, Flag, A, D, E, N, flagNumber, Cell, freshAmong, blanksAmong, oldestAmong, Coverage}
+use Rattle.metering.specs.Sum.{sumBelow}
+use Rattle.metering.specs.Average.{annual}
+use Rattle.metering.specs.Calendar.{durationKnown, periodsPerDay, liesWithin, windowStart, windowEnd}
+use Rattle.ledger.specs.Method.{Category, categoryAt, Flag, A, D, E, N, flagNumber, Cell, freshAmong, blanksAmong, oldestAmong, Totals, Coverage}
 use Rattle.ledger.specs.Opening.{Opening, categories, dates}
 use Rattle.ledger.specs.Table.{firstFrom}
 use Rattle.ledger.specs.Checks.{Registration}
@@ -154,29 +156,70 @@ cellIndex C P d c j = d * (C * P) + (c * P + (j - 1))
 unfoldable pub isRunAt : ℕ → List ℕ → ℕ → Bool
 isRunAt n cells d = not (eqb (flagNumberOf (getD cells (d * n) 0)) 0)
 
--- ---- days: for each category a row of T entries and a row of T sums, one of each for a date. The entry of a run date is
--- FRESH + 2 ^ 16 BLANK + 2 ^ 32 oldest origin + 2 ^ 48, that of a date not run is 0. A date has a sum, run or not:
--- FRESH + 2 ^ 16 BLANK over the run dates among 7, and 2 ^ 32 times the same over those among 365.
+-- ---- days: for each category four rows of T entries, one of each for a date: the day, its sums, TOT and OFF. The day of a run
+-- date is FRESH + 2 ^ 16 BLANK + 2 ^ 32 oldest origin + 2 ^ 48, and TOT stands as TOT + 2 ^ 48, so that adding TOT of dates counts
+-- the run ones. On a date not run day, TOT and OFF are 0. A date has sums, run or not: FRESH + 2 ^ 16 BLANK over the run dates among
+-- 7, and 2 ^ 32 times the same over those among 365.
 
-unfoldable pub dayIndex : ℕ → ℕ → ℕ → ℕ
-dayIndex T c d = c * (2 * T) + d
+abbrev pub dayRow : ℕ
+dayRow = 0
 
-unfoldable pub sumIndex : ℕ → ℕ → ℕ → ℕ
-sumIndex T c d = c * (2 * T) + (T + d)
+abbrev pub sumRow : ℕ
+sumRow = 1
+
+abbrev pub totRow : ℕ
+totRow = 2
+
+abbrev pub offRow : ℕ
+offRow = 3
+
+-- where the entry of date d stands in row r of category c
+unfoldable pub dayIndex : ℕ → ℕ → ℕ → ℕ → ℕ
+dayIndex T c r d = (4 * c + r) * T + d
+
+-- what is kept of a category's date beside its sums
+pub record DayEntries : Type 0 where
+  pub day : ℕ
+  pub tot : ℕ
+  pub off : ℕ
+
+abbrev pub notRunEntries : DayEntries
+notRunEntries = record { day = 0; tot = 0; off = 0 }
 
 unfoldable pub dayEntry : ℕ → ℕ → ℕ → ℕ
 dayEntry fresh blanks oldest = fresh + 65536 * blanks + 4294967296 * oldest + 281474976710656
 
--- the entry of a category's cells on a date
+-- the day of a category's cells on a date
 unfoldable pub dayEntryOf : ℕ → (ℕ → Cell) → ℕ
 dayEntryOf periods cells = dayEntry (freshAmong periods cells) (blanksAmong periods cells) (oldestAmong periods cells)
 
--- FRESH + 2 ^ 16 BLANK
+unfoldable pub totEntry : ℕ → ℕ
+totEntry tot = tot + 281474976710656
+
+-- the values of a category's cells on a date, all of them or those in window w
+unfoldable pub totAmong : ℕ → (ℕ → Cell) → ℕ
+totAmong periods cells = sumBelow periods (λ k. cells k .value)
+
+unfoldable pub offAmong : ℕ → ℕ → ℕ → (ℕ → Cell) → ℕ
+offAmong duration w periods cells =
+    sumBelow periods (λ k. cond (liesWithin duration (windowStart w) (windowEnd w) (suc k)) (cells k .value) 0)
+
+unfoldable pub dayEntriesOf : ℕ → ℕ → ℕ → (ℕ → Cell) → DayEntries
+dayEntriesOf duration w periods cells =
+    record { day = dayEntryOf periods cells; tot = totEntry (totAmong periods cells); off = offAmong duration w periods cells }
+
+-- FRESH + 2 ^ 16 BLANK of a day, and each of them
 unfoldable pub countsOf : ℕ → ℕ
 countsOf entry = entry % 4294967296
 
+unfoldable pub dayFresh : ℕ → ℕ
+dayFresh entry = entry % 65536
+
+unfoldable pub dayBlanks : ℕ → ℕ
+dayBlanks entry = entry / 65536 % 65536
+
 unfoldable pub isRunDay : ℕ → ℕ → List ℕ → ℕ → Bool
-isRunDay T c days d = not (eqb (getD days (dayIndex T c d) 0) 0)
+isRunDay T c days d = not (eqb (getD days (dayIndex T c dayRow d) 0) 0)
 
 unfoldable pub coverageOf : ℕ → ℕ → Coverage
 coverageOf entry sum =
@@ -186,4 +229,32 @@ coverageOf entry sum =
       fresh365 = sum / 4294967296 % 65536;
       blanks365 = sum / 281474976710656 % 65536;
       oldest = entry / 4294967296 % 65536;
+    }
+
+-- in an entry of TOT or OFF, or in a sum of such entries: the Wh, and the number of run dates
+unfoldable pub energyOf : ℕ → ℕ
+energyOf entry = entry % 281474976710656
+
+unfoldable pub runDatesOf : ℕ → ℕ
+runDatesOf entry = entry / 281474976710656
+
+-- with window 0 there is no PEAK
+unfoldable pub peakOf : ℕ → ℕ → ℕ → ℕ
+peakOf w tot off = cond (eqb w 0) 0 (tot - off)
+
+-- from a date's entries, and from those of TOT and OFF summed over a week and of TOT over a year
+unfoldable pub totalsOf : ℕ → DayEntries → ℕ → ℕ → ℕ → Totals
+totalsOf w entries week offWeek year =
+    record {
+      tot = energyOf (entries .tot);
+      off = energyOf (entries .off);
+      peak = peakOf w (energyOf (entries .tot)) (energyOf (entries .off));
+      tot7 = energyOf week;
+      off7 = energyOf offWeek;
+      peak7 = peakOf w (energyOf week) (energyOf offWeek);
+      days7 = runDatesOf week;
+      ann = annual (energyOf year) (runDatesOf year);
+      days = runDatesOf year;
+      fresh = dayFresh (entries .day);
+      blanks = dayBlanks (entries .day);
     }

@@ -1,31 +1,31 @@
 -- What a net read answers and leaves, where a check fails and where none does.
 use Prim.Native.Nat.{ℕ, zero, suc, _≤_, _<_}
-use mathlib.Core.Path.{_≡_, refl, sym, ap, _∙_}
-use mathlib.Core.Bool.{Bool, true, not, cond}
+use mathlib.Core.Path.{_≡_, refl, ap, _∙_}
+use mathlib.Core.Bool.{Bool, true, false, not, cond}
 use mathlib.Core.List.{List, [], _∷_}
 use native.Mathlib.Omega.{arith}
 use native.Mathlib.Nat.{not-suc-le-zero}
 use lib.IntN.{ℤ}
-use borrow.Author.Tests.{not-false}
 use lib.ListN.{length, getD, take}
 use lib.Seq.{getD-take}
-use Rattle.ledger.specs.Net.{activeImport, activeExport, sideOf, Net, netOn}
-use Rattle.ledger.specs.Checks.{mayNet, netCheck}
-use Rattle.ledger.specs.Ledger.{answer, left, refused, netIs}
-use Rattle.ledger.specs.Store.{categoriesOf, periodsOf, rowLength, categoryOf, isRunAt}
-use Rattle.ledger.specs.Calls.{cellFor, sideFor, netVerdict, netFor, overwritten}
+use Rattle.ledger.specs.Net.{activeImport, activeExport, sideOf, Net}
+use Rattle.ledger.specs.Checks.{Verdict, mayNet, netCheck}
+use Rattle.ledger.specs.Ledger.{Answer, answer, left, refused, netIs}
+use Rattle.ledger.specs.Sizes.{daysLength}
+use Rattle.ledger.specs.Ready.{Ready, ready}
+use Rattle.ledger.specs.Store.{categoriesOf, datesOf, periodsOf, rowLength, categoryOf, settingsReady, isRunAt}
+use Rattle.ledger.specs.Calls.{sideFor, daysUnready, netVerdict, netOf, netFor, overwritten}
 use Rattle.ledger.specs.Engine.{Every}
 use Rattle.ledger.proofs.Lists.{length-tabulate, front-is}
 use Rattle.ledger.proofs.Chosen.{chosen-below}
-use Rattle.ledger.proofs.Choices.{check-passed}
 use Rattle.ledger.proofs.Verdicts.{refused-is, kept-is, given-is, after-is}
 use Rattle.store.specs.declared.column.Column.{Column}
 use Rattle.store.specs.Column.{columnOf}
-use Rattle.reads.specs.ReadAccepted.{ReadAccepted}
-use Rattle.reads.proofs.CheckLaws.{passed-reaches, passed-run, rangeNumber, range-decides, range-leaves}
+use Rattle.store.proofs.DayLaws.{days-lent, rows-fit}
+use Rattle.reads.proofs.CheckLaws.{range-passed, range-reaches, rangeNumber, range-decides, range-leaves}
 use Rattle.net.specs.Asked.{netCall}
 use Rattle.net.specs.Sides.{Listed, pairedWith}
-use Rattle.net.specs.Walk.{Among, MayWrite, NetWritten}
+use Rattle.net.specs.Walk.{Among, InDays, MayWrite, NetWritten}
 use Rattle.net.proofs.SideLaws.{found-count}
 
 -- ---- members
@@ -51,75 +51,87 @@ found-among s allGroups quantity c found count l =
           (every-at (λ b. b < categoriesOf s) (sideFor s allGroups quantity c) i (side-low s allGroups quantity c) (let e = found-count l in omega arith));
     }
 
+-- and their rows lie in days that are long enough
+found-in-days : (s : List ℕ) (L date : ℕ) {found : List ℕ} {count : ℕ} → settingsReady s ≡ true → daysLength (categoriesOf s) (datesOf s) ≤ L → date < datesOf s → Among (categoriesOf s) found count →
+    InDays L (datesOf s) date found count
+found-in-days s L date opened room a-date among =
+    record { few = among .few; within = among .within; each = λ i h. rows-fit s _ date L opened room (among .each i h) a-date refl }
+
 -- all that is known where no check fails
 pub may-write :
-    (s cells : List ℕ) (allGroups : Bool) (date category : ℕ) {column : Column} {imports exports : List ℕ} {importCount exportCount numbers marks : ℕ} →
-    column ≡ columnOf s category → ReadAccepted s cells date category →
+    (s cells days : List ℕ) (allGroups : Bool) (date category numbers marks : ℕ) {column : Column} {dates : ℕ} {imports exports : List ℕ} {importCount exportCount : ℕ} →
+    column ≡ columnOf s category → dates ≡ datesOf s → daysUnready s days ≡ false → rangeNumber s cells numbers marks date category ≡ 0 →
     Listed (sideFor s allGroups activeImport category) imports importCount → Listed (sideFor s allGroups activeExport category) exports exportCount →
-    periodsOf s ≤ numbers → periodsOf s ≤ marks → MayWrite cells column date imports importCount exports exportCount numbers marks
-may-write s cells allGroups date category e p i x n m =
-    rw e (record {
-      reaches = passed-reaches s cells date category refl p;
-      run = passed-run s cells date category refl p;
-      imported = found-among s allGroups activeImport category _ _ i;
-      exported = found-among s allGroups activeExport category _ _ x;
-      numbers-long = n;
-      marks-long = m;
+    MayWrite cells column (length days) dates date imports importCount exports exportCount numbers marks
+may-write s cells days allGroups date category numbers marks e t long z i x =
+    let ok = range-passed s cells numbers marks date category z in
+    let import-found = found-among s allGroups activeImport category _ _ i in
+    let export-found = found-among s allGroups activeExport category _ _ x in
+    let room = days-lent s days refl long .1 in
+    rw (e, t) (record {
+      reaches = range-reaches s cells numbers marks date category refl z;
+      import-days = found-in-days s (length days) date (ok .0 .opened) room (ok .1) import-found;
+      export-days = found-in-days s (length days) date (ok .0 .opened) room (ok .1) export-found;
+      imported = import-found;
+      exported = export-found;
+      numbers-long = ok .0 .first-long;
+      marks-long = ok .0 .second-long;
     })
 
 -- ---- the answer
 
--- where 14 is not given the date is run
-pub pair-passed : (s cells : List ℕ) (date category exports m : ℕ) →
-    m ≡ cond (not (pairedWith s category exports)) 26 (cond (not (isRunAt (rowLength s) cells date)) 14 0) → m ≡ 0 → isRunAt (rowLength s) cells date ≡ true
-pair-passed s cells date category exports m is e =
-    not-false _ (check-passed (not (isRunAt (rowLength s) cells date)) 13 0 (check-passed (not (pairedWith s category exports)) 25 _ (sym is ∙ e) .1) .0)
+module _ (s cells days : List ℕ) (allGroups : Bool) (date category : ℕ) (numbers : List ℤ) (marks : List ℕ) where
+  abbrev v : Verdict
+  v = netVerdict s cells days (netCall allGroups date category numbers marks)
 
-module _ (s cells : List ℕ) (allGroups : Bool) (date category : ℕ) (numbers : List ℤ) (marks : List ℕ) where
-  -- 26 and 14
-  abbrev rest : ℕ
-  rest = cond (not (mayNet (categoryOf s) (categoriesOf s) allGroups category)) 26 (cond (not (isRunAt (rowLength s) cells date)) 14 0)
+  abbrev net : Net
+  net = netFor s cells days (netCall allGroups date category numbers marks)
+
+  -- what the contract asks of an answer and of both lists
+  abbrev Meets : Answer → List ℤ → List ℕ → Type 0
+  Meets given numbers′ marks′ =
+      (given ≡ answer v (netIs net))
+      × ((numbers′ ≡ left v numbers (overwritten (net .periods) numbers)) × (marks′ ≡ left v marks (overwritten (net .marks) marks)))
 
   -- a number that a check gave
-  pub refuses : (n : ℕ) → n ≡ netVerdict s cells (netCall allGroups date category numbers marks) .number → (n ≡ 0 → ⊥) →
-      (refused n 0 ≡ answer (netVerdict s cells (netCall allGroups date category numbers marks)) (netIs (netFor s cells (netCall allGroups date category numbers marks))))
-      × ((numbers ≡ left (netVerdict s cells (netCall allGroups date category numbers marks)) numbers (overwritten (netFor s cells (netCall allGroups date category numbers marks) .periods) numbers))
-      × (marks ≡ left (netVerdict s cells (netCall allGroups date category numbers marks)) marks (overwritten (netFor s cells (netCall allGroups date category numbers marks) .marks) marks)))
+  pub refuses : (n : ℕ) → n ≡ v .number → (n ≡ 0 → ⊥) → Meets (refused n 0) numbers marks
   unfolding netVerdict
   refuses n is fails = (refused-is _ n is _ refl fails, (kept-is _ n is _ _ fails, kept-is _ n is _ _ fails))
 
-  pub by-range : (n : ℕ) → n ≡ rangeNumber s cells (length numbers) (length marks) date category → (n ≡ 0 → ⊥) →
-      n ≡ netVerdict s cells (netCall allGroups date category numbers marks) .number
+  pub by-days : daysUnready s days ≡ true → 1 ≡ v .number
   unfolding netVerdict netCheck
-  by-range n is fails = range-decides s cells (length numbers) (length marks) date category rest n is fails
+  by-days short = rw short
 
-  pub by-pair : (n m : ℕ) (found : List ℕ) (count : ℕ) → n ≡ rangeNumber s cells (length numbers) (length marks) date category → n ≡ 0 →
-      Listed (sideFor s allGroups activeExport category) found count →
-      m ≡ cond (not (pairedWith s category count)) 26 (cond (not (isRunAt (rowLength s) cells date)) 14 0) →
-      m ≡ netVerdict s cells (netCall allGroups date category numbers marks) .number
-  unfolding netVerdict netCheck mayNet sideFor pairedWith
-  by-pair n m found count is none l e = e ∙ rw (← (found-count l)) (range-leaves s cells (length numbers) (length marks) date category rest n is none)
+  module _ (long : daysUnready s days ≡ false) (n : ℕ) (is : n ≡ rangeNumber s cells (length numbers) (length marks) date category) where
+    -- 26 and 14
+    abbrev rest : ℕ
+    rest = cond (not (mayNet (categoryOf s) (categoriesOf s) allGroups category)) 26 (cond (not (isRunAt (rowLength s) cells date)) 14 0)
+
+    pub by-range : (n ≡ 0 → ⊥) → n ≡ v .number
+    unfolding netVerdict netCheck
+    by-range fails = rw long (range-decides s cells (length numbers) (length marks) date category rest n is fails)
+
+    pub by-pair : (m : ℕ) (found : List ℕ) (count : ℕ) → n ≡ 0 → Listed (sideFor s allGroups activeExport category) found count →
+        m ≡ cond (not (pairedWith s category count)) 26 (cond (not (isRunAt (rowLength s) cells date)) 14 0) → m ≡ v .number
+    unfolding netVerdict netCheck mayNet sideFor pairedWith
+    by-pair m found count none l e = e ∙ rw (long, ← (found-count l)) (range-leaves s cells (length numbers) (length marks) date category rest n is none)
 
   -- the lists and numbers of the net, at the front of the lists lent
-  periods-long : length (netFor s cells (netCall allGroups date category numbers marks) .periods) ≡ periodsOf s
-  unfolding netFor netOn
+  periods-long : length (net .periods) ≡ periodsOf s
+  unfolding netFor netOf
   periods-long = length-tabulate (periodsOf s) _
 
-  marks-long : length (netFor s cells (netCall allGroups date category numbers marks) .marks) ≡ periodsOf s
-  unfolding netFor netOn
+  marks-long : length (net .marks) ≡ periodsOf s
+  unfolding netFor netOf
   marks-long = length-tabulate (periodsOf s) _
 
   pub accepts : (tot tot7 : ℤ) (numbers′ : List ℤ) (marks′ : List ℕ) (imports exports : List ℕ) (importCount exportCount m : ℕ) →
-      m ≡ netVerdict s cells (netCall allGroups date category numbers marks) .number → m ≡ 0 →
+      m ≡ v .number → m ≡ 0 →
       Listed (sideFor s allGroups activeImport category) imports importCount →
       Listed (sideFor s allGroups activeExport category) exports exportCount →
-      NetWritten (netOn (periodsOf s) (isRunAt (rowLength s) cells) (cellFor s cells) (take importCount imports) (take exportCount exports) date) tot tot7 numbers numbers′ marks marks′ →
-      (netIs (record { tot = tot; tot7 = tot7; periods = take (periodsOf s) numbers′; marks = take (periodsOf s) marks′ })
-      ≡ answer (netVerdict s cells (netCall allGroups date category numbers marks)) (netIs (netFor s cells (netCall allGroups date category numbers marks))))
-      × ((numbers′ ≡ left (netVerdict s cells (netCall allGroups date category numbers marks)) numbers (overwritten (netFor s cells (netCall allGroups date category numbers marks) .periods) numbers))
-      × (marks′ ≡ left (netVerdict s cells (netCall allGroups date category numbers marks)) marks (overwritten (netFor s cells (netCall allGroups date category numbers marks) .marks) marks)))
+      NetWritten (netOf s cells days (take importCount imports) (take exportCount exports) date) tot tot7 numbers numbers′ marks marks′ →
+      Meets (netIs (record { tot = tot; tot7 = tot7; periods = take (periodsOf s) numbers′; marks = take (periodsOf s) marks′ })) numbers′ marks′
   accepts tot tot7 numbers′ marks′ imports exports importCount exportCount m is none i e w =
-      let net : Net = netFor s cells (netCall allGroups date category numbers marks) in
       let written : NetWritten net tot tot7 numbers numbers′ marks marks′ = (unfold netFor in rw (i .are, e .are) at w) in
       let same : _≡_ {A = Net} (record { tot = tot; tot7 = tot7; periods = take (periodsOf s) numbers′; marks = take (periodsOf s) marks′ }) net =
       λ x.

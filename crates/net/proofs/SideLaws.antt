@@ -1,8 +1,7 @@
 -- Sums over the members at the front of an array.
-use Prim.Native.Nat.{ℕ, suc, _+_, _-_, _*_, _≤_, _<_}
+use Prim.Native.Nat.{ℕ, _+_, _*_, _≤_, _<_}
 use mathlib.Core.Path.{_≡_, refl, sym, ap, _∙_}
-use mathlib.Core.Bool.{Bool, true, false, cond, true≢false}
-use lib.Dec.{eqb}
+use mathlib.Core.Bool.{Bool, true, false, cond}
 use mathlib.Core.List.{List, [], _∷_, _++_, append-nil}
 use native.Mathlib.Omega.{arith}
 use native.Mathlib.Nat.{mul-suc, mul-le-mul-left}
@@ -12,15 +11,10 @@ use lib.Seq.{take-suc, take-suc-set, length-take-le}
 use Rattle.ledger.specs.Net.{sumOver}
 use Rattle.ledger.specs.Table.{chosenBelow}
 use Rattle.ledger.proofs.Chosen.{chosen-few}
-use Rattle.ledger.proofs.Nets.{sumOver-append, sumOver-one, sumOver-none}
-use borrow.Author.Tests.{eq-eqb, ne-eqb}
-use Rattle.reads.specs.Sums.{Figure}
-use Rattle.store.specs.declared.column.Column.{Column}
-use Rattle.store.specs.Column.{beside}
-use Rattle.reads.specs.declared.dates.DatesFigures.{DatesFigures}
-use Rattle.reads.specs.Figures.{noPeriod, DatesFigured}
+use Rattle.ledger.proofs.Nets.{sumOver-append, sumOver-one}
+use Rattle.entries.specs.Sums.{Figure}
 use Rattle.net.specs.Sides.{Listed}
-use Rattle.net.specs.Walk.{SummedFirst, earlierTot}
+use Rattle.net.specs.Walk.{SummedFirst}
 
 -- ---- what a loop over members has summed
 
@@ -81,18 +75,3 @@ found-few test b l = let e = found-count l in let f = chosen-few b test in omega
 
 pub found-all : (test : ℕ → Bool) (b n : ℕ) (found : List ℕ) (count : ℕ) → b ≡ n → Listed (chosenBelow b test) found count → Listed (chosenBelow n test) found count
 found-all test b n found count e l = rw e at l
-
--- ---- the six dates before
-
-sum-never : (b : Bool) (cs : List ℕ) (f : ℕ → ℕ) → b ≡ true → sumOver cs (λ c. cond b 0 (f c)) ≡ 0
-sum-never true cs f e = sumOver-none cs
-sum-never false cs f e = absurd (true≢false (sym e))
-
-module _ (cells : List ℕ) (column : Column) (date : ℕ) where
-  -- before the first date there is none
-  pub none-earlier : (members : List ℕ) (count bound : ℕ) → date ≡ 0 → SummedFirst members count bound (earlierTot cells column date) 0
-  none-earlier members count bound e = record { is = sym (sum-never (eqb date 0) (take count members) _ (eq-eqb date 0 e)); small = omega arith }
-
-  pub earlier-is : (c : ℕ) {member : Column} {r : DatesFigures} → (date ≡ 0 → ⊥) → member ≡ beside column c → DatesFigured member noPeriod cells (date - 1) 6 r →
-      Figure 2473901161920 (earlierTot cells column date c) (r .tot)
-  earlier-is c some e f = record { is = ap (λ x. x .tot) (f .is) ∙ rw (e, ne-eqb date 0 some); small = f .small }

@@ -1,18 +1,20 @@
 -- Sums over the categories at the front of an array, and what is written for the periods of a date.
-use Prim.Native.Nat.{ℕ, _+_, _-_, _*_, _≤_, _<_}
+use Prim.Native.Nat.{ℕ, suc, _+_, _*_, _≤_, _<_}
 use mathlib.Core.Path.{_≡_}
-use mathlib.Core.Bool.{true, cond}
+use mathlib.Core.Bool.{cond}
 use mathlib.Core.List.{List}
 use lib.Dec.{eqb}
 use lib.ListN.{length, getD, take}
 use lib.IntN.{ℤ, pos, _-ℤ_}
-use Rattle.ledger.specs.Table.{filling}
-use Rattle.ledger.specs.Net.{sumOver, Net, netOn}
-use Rattle.ledger.specs.Calls.{overwritten}
+use Rattle.ledger.specs.Method.{Cell}
+use Rattle.ledger.specs.Table.{tabulate, filling}
+use Rattle.ledger.specs.Net.{sumOver, Net, netPeriod, markOf, netTot}
+use Rattle.ledger.specs.Store.{totRow, dayIndex, energyOf}
+use Rattle.ledger.specs.Calls.{datesSum, overwritten}
 use Rattle.store.specs.declared.column.Column.{Column}
-use Rattle.store.specs.Column.{beside, cellIn, runIn, Reaches}
-use Rattle.reads.specs.Sums.{Summed}
-use Rattle.reads.specs.Figures.{valueAfter, blankAfter, noPeriod, datesFigures}
+use Rattle.store.specs.Column.{beside, cellIn, runIn, valueAfter, blankAfter, Reaches}
+use Rattle.store.specs.Days.{RowsFit}
+use Rattle.entries.specs.Sums.{Summed}
 
 -- over the first `count` members, with the bound that keeps the sum within 64 bits
 pub record SummedFirst (members : List ℕ) (count bound : ℕ) (f : ℕ → ℕ) (r : ℕ) : Type 0 where
@@ -44,10 +46,6 @@ module _ (cells : List ℕ) (column : Column) (d : ℕ) where
   abbrev pub periodMark : List ℕ → List ℕ → ℕ → ℕ
   periodMark imports exports k = cond (eqb (sideBlanks imports k + sideBlanks exports k) 0) 0 1
 
-  -- TOT of category c over the run dates among the six before the date
-  abbrev pub earlierTot : ℕ → ℕ
-  earlierTot c = cond (eqb d 0) 0 (datesFigures (beside column c) noPeriod cells (d - 1) 6 .tot)
-
 -- 64 categories of 32 bits each
 pub record DayWritten (cells : List ℕ) (column : Column) (d : ℕ) (imports exports : List ℕ) (numbers numbers′ : List ℤ) (marks marks′ : List ℕ) (import export : ℕ) : Type 0 where
   pub nets-are : numbers′ ≡ filling (column .periods) (periodNet cells column d imports exports) numbers
@@ -55,15 +53,36 @@ pub record DayWritten (cells : List ℕ) (column : Column) (d : ℕ) (imports ex
   pub imported : Summed (column .periods) 274877906880 (sideValue cells column d imports) import
   pub exported : Summed (column .periods) 274877906880 (sideValue cells column d exports) export
 
+-- ---- the week
+
+-- TOT7 of category c
+abbrev pub weekTot : List ℕ → ℕ → ℕ → ℕ → ℕ
+weekTot days dates d c = energyOf (datesSum 7 d (dayIndex dates c totRow d) days)
+
+-- the rows of each of the first `count` members lie in days of L entries
+pub record InDays (L dates d : ℕ) (members : List ℕ) (count : ℕ) : Type 0 where
+  pub few : count ≤ 64
+  pub within : count ≤ length members
+  pub each : (i : ℕ) → i < count → RowsFit dates (getD members i 0) d L
+
 -- ---- the net
 
-abbrev pub netIn : Column → List ℕ → List ℕ → List ℕ → ℕ → Net
-netIn column cells imports exports d = netOn (column .periods) (runIn column cells) (λ x c j. cellIn (beside column c) cells x j) imports exports d
+abbrev pub netIn : Column → List ℕ → List ℕ → ℕ → List ℕ → List ℕ → ℕ → Net
+netIn column cells days dates imports exports d =
+    let ran = runIn column cells in
+    let cell : ℕ → ℕ → ℕ → Cell = λ x c j. cellIn (beside column c) cells x j in
+    record {
+      tot = netTot (column .periods) ran cell imports exports d;
+      tot7 = pos (sumOver imports (weekTot days dates d)) -ℤ pos (sumOver exports (weekTot days dates d));
+      periods = tabulate (column .periods) (λ k. netPeriod (column .periods) ran cell imports exports d (suc k));
+      marks = tabulate (column .periods) (λ k. markOf (column .periods) ran cell imports exports d (suc k));
+    }
 
 -- all checks have passed, and both sides are found
-pub record MayWrite (cells : List ℕ) (column : Column) (d : ℕ) (imports : List ℕ) (importCount : ℕ) (exports : List ℕ) (exportCount numbers marks : ℕ) : Type 0 where
+pub record MayWrite (cells : List ℕ) (column : Column) (L dates d : ℕ) (imports : List ℕ) (importCount : ℕ) (exports : List ℕ) (exportCount numbers marks : ℕ) : Type 0 where
   pub reaches : Reaches cells column d
-  pub run : runIn column cells d ≡ true
+  pub import-days : InDays L dates d imports importCount
+  pub export-days : InDays L dates d exports exportCount
   pub imported : Among (column .categories) imports importCount
   pub exported : Among (column .categories) exports exportCount
   pub numbers-long : column .periods ≤ numbers

@@ -1,14 +1,17 @@
-// The net read (change request 2026-13): import less export, for each period of a date, for the date and for its week. Both sides are found before a cell is read.
+// The net read (change request 2026-13): import less export, for each period of a date, for the date and for its week. Both sides are found before a cell is read;
+// the week comes from the days.
 use crate::checks::pair_number;
 use crate::periods::difference;
 use crate::periods::write_periods;
 use crate::sides::ACTIVE_EXPORT;
 use crate::sides::ACTIVE_IMPORT;
 use crate::sides::members;
-use crate::week::earlier_sum;
+use crate::week::week_sum;
 use reads::checks::range_number;
+use settings::header::date_count;
 use store::column::Column;
 use store::column::column_of;
+use store::lent::days_unready;
 use store::outcome::Net;
 use store::outcome::NetOutcome;
 ghost use mathlib.Core.Path.{_≡_};
@@ -28,16 +31,23 @@ mod week;
 pub fn read_net(
     settings: &[u8],
     cells: &[u64],
+    days: &[u64],
     date: u64,
     category: u64,
     all_groups: bool,
     numbers: &mut [i64],
     marks: &mut [u8],
 ) -> NetOutcome
-    ensures answers { λ r. ⌜ netAnswer (periodsOf (now (settings .entry))) r (now (numbers .exit)) (now (marks .exit)) ≡ answer (netVerdict (now (settings .entry)) (now (cells .entry)) (netCall «all_groups» date category (now (numbers .entry)) (now (marks .entry)))) (netIs (netFor (now (settings .entry)) (now (cells .entry)) (netCall «all_groups» date category (now (numbers .entry)) (now (marks .entry))))) ⌝ }
-    ensures nets_are { λ r. ⌜ now (numbers .exit) ≡ left (netVerdict (now (settings .entry)) (now (cells .entry)) (netCall «all_groups» date category (now (numbers .entry)) (now (marks .entry)))) (now (numbers .entry)) (overwritten (netFor (now (settings .entry)) (now (cells .entry)) (netCall «all_groups» date category (now (numbers .entry)) (now (marks .entry))) .periods) (now (numbers .entry))) ⌝ }
-    ensures marks_are { λ r. ⌜ now (marks .exit) ≡ left (netVerdict (now (settings .entry)) (now (cells .entry)) (netCall «all_groups» date category (now (numbers .entry)) (now (marks .entry)))) (now (marks .entry)) (overwritten (netFor (now (settings .entry)) (now (cells .entry)) (netCall «all_groups» date category (now (numbers .entry)) (now (marks .entry))) .marks) (now (marks .entry))) ⌝ }
+    ensures answers { λ r. ⌜ netAnswer (periodsOf (now (settings .entry))) r (now (numbers .exit)) (now (marks .exit)) ≡ answer (netVerdict (now (settings .entry)) (now (cells .entry)) (now (days .entry)) (netCall «all_groups» date category (now (numbers .entry)) (now (marks .entry)))) (netIs (netFor (now (settings .entry)) (now (cells .entry)) (now (days .entry)) (netCall «all_groups» date category (now (numbers .entry)) (now (marks .entry))))) ⌝ }
+    ensures nets_are { λ r. ⌜ now (numbers .exit) ≡ left (netVerdict (now (settings .entry)) (now (cells .entry)) (now (days .entry)) (netCall «all_groups» date category (now (numbers .entry)) (now (marks .entry)))) (now (numbers .entry)) (overwritten (netFor (now (settings .entry)) (now (cells .entry)) (now (days .entry)) (netCall «all_groups» date category (now (numbers .entry)) (now (marks .entry))) .periods) (now (numbers .entry))) ⌝ }
+    ensures marks_are { λ r. ⌜ now (marks .exit) ≡ left (netVerdict (now (settings .entry)) (now (cells .entry)) (now (days .entry)) (netCall «all_groups» date category (now (numbers .entry)) (now (marks .entry)))) (now (marks .entry)) (overwritten (netFor (now (settings .entry)) (now (cells .entry)) (now (days .entry)) (netCall «all_groups» date category (now (numbers .entry)) (now (marks .entry))) .marks) (now (marks .entry))) ⌝ }
 {
+    if days_unready(settings, days) {
+        return NetOutcome::Refused {
+            number: 1,
+            place: 0,
+        };
+    }
     let range_failed = range_number(
         settings,
         cells,
@@ -64,9 +74,12 @@ pub fn read_net(
     let mut imports = [0u64; 64];
     let import_count = members(settings, all_groups, ACTIVE_IMPORT, category, &mut imports);
     let column = column_of(settings, category);
+    let dates = date_count(settings);
     NetOutcome::Net(net_of(
         cells,
         column,
+        days,
+        dates,
         date,
         &imports,
         import_count,
@@ -81,6 +94,8 @@ pub fn read_net(
 fn net_of(
     cells: &[u64],
     column: Column,
+    days: &[u64],
+    dates: u64,
     date: u64,
     imports: &[u64; 64],
     import_count: u64,
@@ -89,8 +104,8 @@ fn net_of(
     numbers: &mut [i64],
     marks: &mut [u8],
 ) -> Net
-    requires { ⌜ MayWrite (now cells) column date (now imports) «import_count» (now exports) «export_count» (length (now numbers)) (length (now marks)) ⌝ }
-    ensures { λ r. ⌜ NetWritten (netIn column (now (cells .entry)) (take «import_count» (now (imports .entry))) (take «export_count» (now (exports .entry))) date) (r .tot) (r .tot7) (now (numbers .entry)) (now (numbers .exit)) (now (marks .entry)) (now (marks .exit)) ⌝ }
+    requires { ⌜ MayWrite (now cells) column (length (now days)) dates date (now imports) «import_count» (now exports) «export_count» (length (now numbers)) (length (now marks)) ⌝ }
+    ensures { λ r. ⌜ NetWritten (netIn column (now (cells .entry)) (now (days .entry)) dates (take «import_count» (now (imports .entry))) (take «export_count» (now (exports .entry))) date) (r .tot) (r .tot7) (now (numbers .entry)) (now (numbers .exit)) (now (marks .entry)) (now (marks .exit)) ⌝ }
 {
     let day = write_periods(
         cells,
@@ -103,9 +118,9 @@ fn net_of(
         numbers,
         marks,
     );
-    let import_before = earlier_sum(cells, column, date, imports, import_count);
-    let export_before = earlier_sum(cells, column, date, exports, export_count);
+    let import_week = week_sum(days, dates, date, imports, import_count);
+    let export_week = week_sum(days, dates, date, exports, export_count);
     let tot = difference(day.import, day.export);
-    let tot7 = difference(day.import + import_before, day.export + export_before);
+    let tot7 = difference(import_week, export_week);
     Net { tot, tot7 }
 }

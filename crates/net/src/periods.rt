@@ -1,5 +1,5 @@
 // The periods of the date: each cell that is summed is read once.
-use reads::periods::blank_number;
+use entries::cell::Flag;
 use store::column::Column;
 use store::column::beside;
 use store::column::cell_at;
@@ -9,6 +9,9 @@ ghost use Prim.Native.Nat.{_+_, _<_, _≤_};
 ghost use lib.Dec.{eqb};
 ghost use lib.IntN.{pos, _-ℤ_};
 ghost use lib.ListN.{length, set, take};
+ghost use Rattle.ledger.specs.Method.{isBlank};
+ghost use Rattle.entries.specs.Cell.{flagMeant};
+ghost use Rattle.entries.specs.Sums.{Figure};
 ghost use Rattle.store.specs.Column.{Reaches};
 ghost use Rattle.net.specs.Walk.{Among, SideSummed, DayWritten};
 
@@ -22,6 +25,17 @@ pub struct SideSum {
 pub struct DaySums {
     pub import: u64,
     pub export: u64,
+}
+
+fn blank_number(flag: Flag) -> u64
+    ensures { λ r. ⌜ Figure 1 (isBlank (flagMeant flag)) r ⌝ }
+{
+    match flag {
+        Flag::A => 0,
+        Flag::D => 0,
+        Flag::E => 0,
+        Flag::N => 1,
+    }
 }
 
 pub fn difference(import: u64, export: u64) -> i64

@@ -1,26 +1,21 @@
-// The six dates before the date, for TOT7.
-use reads::dates::over_dates;
-use reads::periods::NO_PERIOD;
-use store::column::Column;
-use store::column::beside;
-ghost use Rattle.store.specs.Column.{Reaches};
-ghost use Rattle.net.specs.Walk.{Among, SummedFirst, earlierTot};
+// TOT7 of a side, from the days.
+use day_reads::sums::dates_sum;
+use entries::day::energy_of;
+use store::days::TOT;
+use store::days::day_index;
+ghost use lib.ListN.{length};
+ghost use Rattle.net.specs.Walk.{InDays, SummedFirst, weekTot};
 
-// TOT of a side's categories, summed over the run dates among the six before the date.
-pub fn earlier_sum(cells: &[u64], column: Column, date: u64, members: &[u64; 64], count: u64) -> u64
-    requires { ⌜ Reaches (now cells) column date × Among (column .categories) (now members) count ⌝ }
-    ensures { λ r. ⌜ SummedFirst (now (members .entry)) count 2473901161920 (earlierTot (now (cells .entry)) column date) r ⌝ }
+pub fn week_sum(days: &[u64], dates: u64, date: u64, members: &[u64; 64], count: u64) -> u64
+    requires { ⌜ InDays (length (now days)) dates date (now members) count ⌝ }
+    ensures { λ r. ⌜ SummedFirst (now (members .entry)) count 281474976710655 (weekTot (now (days .entry)) dates date) r ⌝ }
 {
-    if date == 0 {
-        return 0;
-    }
     let mut sum: u64 = 0;
     let mut i: u64 = 0;
     while i < count {
         let category = members[i as usize];
-        let member = beside(column, category);
-        let before = over_dates(cells, member, NO_PERIOD, date - 1, 6);
-        sum += before.tot;
+        let at = day_index(dates, category, TOT, date);
+        sum += energy_of(dates_sum(days, at, date, 7));
         i += 1;
     }
     sum

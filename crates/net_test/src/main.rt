@@ -12,7 +12,7 @@ fn main() {
     let mut meters = [0u64; 492];
     let mut readings = [0u64; 7056];
     let mut cells = [0u64; 6912];
-    let mut days = [0u64; 288];
+    let mut days = [0u64; 576];
     let end = console::converse(
         &mut category_records,
         &mut day_types,
@@ -29,10 +29,10 @@ fn main() {
     match end {
         Stage::WriteFailed => {}
         _ => {
-            nets::all_nets(&settings, &cells, false);
-            nets::all_nets(&settings, &cells, true);
-            nets::other_lengths(&settings, &cells);
-            nets::without_the_last_cell(&settings, &cells);
+            nets::all_nets(&settings, &cells, &days, false);
+            nets::all_nets(&settings, &cells, &days, true);
+            nets::other_lengths(&settings, &cells, &days);
+            nets::without_the_last_cell(&settings, &cells, &days);
         }
     }
 }

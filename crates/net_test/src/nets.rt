@@ -7,6 +7,7 @@ ghost use Prim.Native.Nat.{_≤_};
 fn net_line(
     settings: &[u8],
     cells: &[u64],
+    days: &[u64],
     date: u64,
     category: u64,
     all_groups: bool,
@@ -20,6 +21,7 @@ fn net_line(
     let outcome = engine::read_net(
         settings,
         cells,
+        days,
         date,
         category,
         all_groups,
@@ -44,35 +46,35 @@ fn net_line(
 }
 
 // All categories of a date, and one past the last.
-fn nets_of_date(settings: &[u8], cells: &[u64], date: u64, all_groups: bool) {
+fn nets_of_date(settings: &[u8], cells: &[u64], days: &[u64], date: u64, all_groups: bool) {
     let mut category: u64 = 0;
     while category <= 12 {
-        net_line(settings, cells, date, category, all_groups, 50, 50);
+        net_line(settings, cells, days, date, category, all_groups, 50, 50);
         category += 1;
     }
 }
 
 // All dates, and one past the last.
-pub fn all_nets(settings: &[u8], cells: &[u64], all_groups: bool) {
+pub fn all_nets(settings: &[u8], cells: &[u64], days: &[u64], all_groups: bool) {
     let mut date: u64 = 0;
     while date <= 12 {
-        nets_of_date(settings, cells, date, all_groups);
+        nets_of_date(settings, cells, days, date, all_groups);
         date += 1;
     }
 }
 
 // Lists that just suffice, and lists that are an entry short.
-pub fn other_lengths(settings: &[u8], cells: &[u64]) {
-    net_line(settings, cells, 0, 0, false, 48, 48);
-    net_line(settings, cells, 0, 0, true, 48, 48);
-    net_line(settings, cells, 0, 0, false, 47, 48);
-    net_line(settings, cells, 0, 0, true, 48, 47);
-    net_line(settings, cells, 12, 12, false, 47, 47);
+pub fn other_lengths(settings: &[u8], cells: &[u64], days: &[u64]) {
+    net_line(settings, cells, days, 0, 0, false, 48, 48);
+    net_line(settings, cells, days, 0, 0, true, 48, 48);
+    net_line(settings, cells, days, 0, 0, false, 47, 48);
+    net_line(settings, cells, days, 0, 0, true, 48, 47);
+    net_line(settings, cells, days, 12, 12, false, 47, 47);
 }
 
-pub fn without_the_last_cell(settings: &[u8], cells: &[u64]) {
+pub fn without_the_last_cell(settings: &[u8], cells: &[u64], days: &[u64]) {
     if 0 < cells.len() {
         let end = cells.len() - 1;
-        net_line(settings, &cells[..end], 0, 0, false, 48, 48);
+        net_line(settings, &cells[..end], days, 0, 0, false, 48, 48);
     }
 }

@@ -8,15 +8,20 @@ use borrow.Author.Tests.{leb-true, leb-false, ltb-true, ltb-false, ne-eqb, not-f
 use lib.Dec.{leb}
 use Rattle.metering.specs.Range.{between}
 use Rattle.ledger.specs.Checks.{firstNumber, runCheck, rangeCheck, readCheck, totalsInRange, cellInRange, listsShort}
-use Rattle.ledger.specs.Store.{categoriesOf, datesOf, periodsOf, rowLength, settingsReady, cellsReady}
-use Rattle.ledger.specs.Calls.{cellsUnready, totalsVerdict, cellVerdict}
+use Rattle.ledger.specs.Store.{categoriesOf, datesOf, periodsOf, settingsReady, cellsReady}
+use Rattle.ledger.specs.Calls.{cellsUnready, cellVerdict}
 use Rattle.ledger.proofs.Choices.{check-passed, neither}
 use Rattle.store.specs.declared.column.Column.{Column}
-use Rattle.store.specs.Column.{columnOf, runIn, Reaches}
+use Rattle.store.specs.Column.{columnOf, Reaches}
 use Rattle.store.proofs.ColumnLaws.{column-reaches}
-use Rattle.reads.specs.ReadAccepted.{ReadAccepted}
 
 -- ---- what holds where the checks pass
+
+pub record ReadAccepted (settings cells : List ℕ) (d c : ℕ) : Type 0 where
+  pub opened : settingsReady settings ≡ true
+  pub complete : cellsReady settings cells ≡ true
+  pub date : d < datesOf settings
+  pub category : c < categoriesOf settings
 
 passed-both : (a b : Bool) → not (a && b) ≡ false → (a ≡ true) × (b ≡ true)
 passed-both a b h = and-eq-true-iff a b .0 (not-false (a && b) h)
@@ -32,22 +37,6 @@ module _ (settings cells : List ℕ) (d : ℕ) where
       let r = passed-both _ _ (p .0) in
       (r .0, r .1, leb-false _ _ (q .0))
 
-  pub totals-passed : (c : ℕ) → totalsVerdict settings cells d c .number ≡ 0 → ReadAccepted settings cells d c
-  unfolding totalsVerdict readCheck cellsUnready totalsInRange
-  totals-passed c h =
-      let p = check-passed _ 0 _ h in
-      let q = check-passed _ 8 _ (p .1) in
-      let t = check-passed _ 14 _ (q .1) in
-      let u = check-passed _ 13 0 (t .1) in
-      let r = passed-both _ _ (p .0) in
-      record {
-        opened = r .0;
-        complete = r .1;
-        date = leb-false _ _ (q .0);
-        category = ltb-true _ _ (not-false _ (t .0));
-        run = not-false _ (u .0);
-      }
-
   pub cell-passed :
       (c j : ℕ) → cellVerdict settings cells d c j .number ≡ 0 → ReadAccepted settings cells d c × (1 ≤ j) × (j ≤ periodsOf settings)
   unfolding cellVerdict readCheck cellsUnready cellInRange between
@@ -55,7 +44,6 @@ module _ (settings cells : List ℕ) (d : ℕ) where
       let p = check-passed _ 0 _ h in
       let q = check-passed _ 8 _ (p .1) in
       let t = check-passed _ 14 _ (q .1) in
-      let u = check-passed _ 13 0 (t .1) in
       let r = passed-both _ _ (p .0) in
       let v = passed-both _ _ (t .0) in
       let w = and-eq-true-iff _ _ .0 (v .1) in (
@@ -64,19 +52,13 @@ module _ (settings cells : List ℕ) (d : ℕ) where
           complete = r .1;
           date = leb-false _ _ (q .0);
           category = ltb-true _ _ (v .0);
-          run = not-false _ (u .0);
         },
         leb-true _ _ (w .0),
         leb-true _ _ (w .1),
       )
 
-  module _ (c : ℕ) {column : Column} (e : column ≡ columnOf settings c) (p : ReadAccepted settings cells d c) where
-    pub passed-reaches : Reaches cells column d
-    passed-reaches = rw e (column-reaches settings cells d c (p .opened) (p .complete) (p .date) (p .category))
-
-    pub passed-run : runIn column cells d ≡ true
-    unfolding rowLength
-    passed-run = rw e (p .run)
+  pub passed-reaches : (c : ℕ) {column : Column} → column ≡ columnOf settings c → ReadAccepted settings cells d c → Reaches cells column d
+  passed-reaches c e p = rw e (column-reaches settings cells d c (p .opened) (p .complete) (p .date) (p .category))
 
 -- what holds of the parts and of the two lists where 1 is not given
 pub record Long (settings cells : List ℕ) (first second : ℕ) : Type 0 where

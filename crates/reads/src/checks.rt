@@ -12,7 +12,7 @@ ghost use Prim.Native.Nat.{_<_};
 ghost use lib.Dec.{leb};
 ghost use Rattle.ledger.specs.Checks.{firstNumber, runCheck, rangeCheck, totalsInRange, cellInRange, listsShort};
 ghost use Rattle.ledger.specs.Store.{categoriesOf, datesOf, periodsOf, rowLength, settingsReady, cellsReady, isRunAt};
-ghost use Rattle.ledger.specs.Calls.{cellsUnready, totalsVerdict, cellVerdict};
+ghost use Rattle.ledger.specs.Calls.{cellsUnready, cellVerdict};
 
 pub fn first_number(first: u64, second: u64) -> u64
     ensures { λ r. ⌜ r ≡ firstNumber first second ⌝ }
@@ -45,7 +45,7 @@ fn lent_number(settings: &[u8], cells: &[u64], date: u64) -> u64
 }
 
 // 15, by the category alone.
-pub fn category_number(settings: &[u8], category: u64) -> u64
+fn category_number(settings: &[u8], category: u64) -> u64
     requires { ⌜ settingsReady (now settings) ≡ true ⌝ }
     ensures { λ r. ⌜ r ≡ cond (not (totalsInRange (categoriesOf (now (settings .entry))) category)) 15 0 ⌝ }
 {
@@ -111,18 +111,6 @@ pub fn run_number(settings: &[u8], cells: &[u64], date: u64) -> u64
         return 14;
     }
     0
-}
-
-pub fn totals_check(settings: &[u8], cells: &[u64], date: u64, category: u64) -> u64
-    ensures { λ r. ⌜ r ≡ totalsVerdict (now (settings .entry)) (now (cells .entry)) date category .number ⌝ }
-{
-    let number = lent_number(settings, cells, date);
-    if number != 0 {
-        return number;
-    }
-    let category_failed = category_number(settings, category);
-    let run_failed = run_number(settings, cells, date);
-    first_number(category_failed, run_failed)
 }
 
 pub fn cell_check(settings: &[u8], cells: &[u64], date: u64, category: u64, period: u64) -> u64

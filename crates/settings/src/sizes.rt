@@ -38,5 +38,5 @@ pub fn days_length(categories: u64, dates: u64) -> u64
     requires { ⌜ (categories ≤ 64) × (dates ≤ 800) ⌝ }
     ensures { λ r. ⌜ r ≡ daysLength categories dates ⌝ }
 {
-    categories * (2 * dates)
+    4 * categories * dates
 }

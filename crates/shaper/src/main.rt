@@ -8,7 +8,7 @@ fn main() {
     let mut meters = [0u64; 164];
     let mut readings = [0u64; 1568];
     let mut cells = [0u64; 1152];
-    let mut days = [0u64; 48];
+    let mut days = [0u64; 96];
     console::converse(
         &mut category_records,
         &mut day_types,

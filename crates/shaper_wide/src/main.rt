@@ -9,7 +9,7 @@ fn main() {
     let mut meters = [0u64; 328];
     let mut readings = [0u64; 287120];
     let mut cells = [0u64; 284160];
-    let mut days = [0u64; 5920];
+    let mut days = [0u64; 11840];
     console::converse(
         &mut category_records,
         &mut day_types,

@@ -32,12 +32,6 @@ module _ {cells : List ℕ} {column : Column} {d : ℕ} (w : Reaches cells colum
   pub mark-within : d * (column .categories * column .periods) < length cells
   mark-within = omega (arith, category-within, w .date, w .periods .0)
 
-  pub earlier-reaches : (k : ℕ) → Reaches cells column (d - k)
-  earlier-reaches k =
-      let n = column .categories * column .periods in
-      let h : (d - k) * n ≤ d * n = mul-le-mul-right n (omega arith) in
-      record { category = w .category; periods = w .periods; date = omega (arith, h, w .date) }
-
   pub beside-reaches : (c : ℕ) {other : Column} → other ≡ beside column c → c < column .categories → Reaches cells other d
   beside-reaches c e h = rw e (record { category = h; periods = w .periods; date = w .date })
 

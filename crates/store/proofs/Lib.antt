@@ -4,3 +4,4 @@ pub mod Bounds
 pub mod Laws
 pub mod LentLaws
 pub mod RowLaws
+pub mod DayLaws

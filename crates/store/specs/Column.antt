@@ -1,5 +1,5 @@
 -- One category's cells in the lent part: where they stand, and what they say.
-use Prim.Native.Nat.{ℕ, _+_, _*_, _≤_, _<_}
+use Prim.Native.Nat.{ℕ, suc, _+_, _*_, _≤_, _<_}
 use mathlib.Core.Path.{_≡_}
 use mathlib.Core.Bool.{Bool}
 use mathlib.Core.List.{List}
@@ -27,6 +27,13 @@ cellIn column cells d j = cellOfEntry (getD cells (placeIn column d j) 0)
 
 abbrev pub runIn : Column → List ℕ → ℕ → Bool
 runIn column cells d = isRunAt (column .categories * column .periods) cells d
+
+-- what the cell of the period after k others gives
+abbrev pub valueAfter : Column → List ℕ → ℕ → ℕ → ℕ
+valueAfter column cells d k = cellIn column cells d (suc k) .value
+
+abbrev pub blankAfter : Column → List ℕ → ℕ → ℕ → ℕ
+blankAfter column cells d k = method.isBlank (cellIn column cells d (suc k) .flag)
 
 -- the category is one of those that there are, and the part reaches past the date's cells
 pub record Reaches (cells : List ℕ) (column : Column) (d : ℕ) : Type 0 where

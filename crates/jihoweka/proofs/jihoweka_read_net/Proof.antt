@@ -12,7 +12,7 @@ use Rattle.jihoweka.proofs.jihoweka_read_net.Statement.{statement}
 use Rattle.jihoweka.proofs.jihoweka_read_net.Tie as tie
 
 abbrev start : tie.Else1 → tie.Start
-start c = c .before .before .before .before
+start c = c .before .before .before .before .before
 
 abbrev taken : tie.After-read-net → tie.Else1
 taken c = c .before .before .before
@@ -22,7 +22,7 @@ called c = c .before .before .before .before
 
 returns : tie.Need-returns
 returns c =
-    let a = c .before .before .before .before .args in
+    let a = c .before .before .before .before .before .args in
     (list-short (now (a .fields)) _ (c .if1 .taken), (short-left (now (a .fields)) (now (a .numbers)) _ (c .if1 .taken), short-left (now (a .fields)) (now (a .marks)) _ (c .if1 .taken)))
 
 read-net-requires : tie.Need-read-net-requires
@@ -32,7 +32,7 @@ of-net-requires : tie.Need-of-net-requires
 of-net-requires c κs =
     let call = called c in
     let a = start (taken call) .args in
-    any-lists (call .read-net .result) (periodsOf (now (a .settings))) (call .read-net .last .1 .1 .1 .1 .1 .0) (call .read-net .last .1 .1 .1 .1 .1 .1 .0) (call .read-net .ensures .0) (net-fits (now (a .settings)) (now (a .cells)) (netCall (not (eqb (a .all-groups) 0)) (a .date) (a .category) (now (a .numbers)) (now (a .marks))))
+    any-lists (call .read-net .result) (periodsOf (now (a .settings))) (call .read-net .last .1 .1 .1 .1 .1 .1 .0) (call .read-net .last .1 .1 .1 .1 .1 .1 .1 .0) (call .read-net .ensures .0) (net-fits (now (a .settings)) (now (a .cells)) (now (a .days)) (netCall (not (eqb (a .all-groups) 0)) (a .date) (a .category) (now (a .numbers)) (now (a .marks))))
 
 put-fields-requires : tie.Need-put-fields-requires
 put-fields-requires c κs = let n = c .of-net .ensures 0 [] [] in (n .few, n .long, taken (called (c .before)) .if1 .left)

@@ -1,5 +1,4 @@
 -- `jihoweka_read_totals` meets its contract: a list that is too short, or the call and its answer as numbers.
-use native.Mathlib.Omega.{arith}
 use borrow.Author.Needs.{needs}
 use denote.Ref.{now}
 use Rattle.jihoweka.proofs.Laws.{list-short, handed}
@@ -28,7 +27,7 @@ of-totals-requires : tie.Need-of-totals-requires
 of-totals-requires c κs =
     let call = called c in
     let a = start (taken call) .args in
-    rw (call .read-totals .ensures) (totals-fits (now (a .settings)) (now (a .cells)) (λ i. omega (arith, taken call .before .shared-slice-known2 .given i)) (a .date) (a .category))
+    rw (call .read-totals .ensures) (totals-fits (now (a .settings)) (now (a .days)) (a .date) (a .category))
 
 put-fields-requires : tie.Need-put-fields-requires
 put-fields-requires c κs = search needs

@@ -29,7 +29,7 @@ of-band-requires : tie.Need-of-band-requires
 of-band-requires c κs =
     let call = called c in
     let a = start (taken call) .args in
-    any-dates (call .search-band .result) (call .search-band .last .1 .1 .1 .1 .1 .1 .0) (call .search-band .ensures .0) (band-fits (now (a .settings)) (now (a .cells)) (bandCall (a .category) (a .day-type) (a .least) (a .most) (now (a .dates))))
+    any-dates (call .search-band .result) (call .search-band .last .1 .1 .1 .1 .1 .1 .0) (call .search-band .ensures .0) (band-fits (now (a .settings)) (now (a .days)) (bandCall (a .category) (a .day-type) (a .least) (a .most) (now (a .dates))))
 
 put-fields-requires : tie.Need-put-fields-requires
 put-fields-requires c κs = let n = c .of-band .ensures [] in (n .few, n .long, taken (called (c .before)) .if1 .left)

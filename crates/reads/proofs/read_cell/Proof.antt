@@ -9,8 +9,7 @@ use Rattle.ledger.specs.Store.{periodsOf}
 use Rattle.ledger.specs.Calls.{cellVerdict, cellFor}
 use Rattle.ledger.proofs.Verdicts.{refused-is, given-is}
 use Rattle.store.specs.Column.{columnOf, cellIn}
-use Rattle.reads.specs.ReadAccepted.{ReadAccepted}
-use Rattle.reads.proofs.CheckLaws.{cell-passed, passed-reaches}
+use Rattle.reads.proofs.CheckLaws.{ReadAccepted, cell-passed, passed-reaches}
 use Rattle.reads.proofs.read_cell.Statement.{statement}
 use Rattle.reads.proofs.read_cell.Tie as tie
 

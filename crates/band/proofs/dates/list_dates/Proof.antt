@@ -12,11 +12,11 @@ use Rattle.band.proofs.dates.list_dates.Statement.{statement}
 use Rattle.band.proofs.dates.list_dates.Tie as tie
 
 abbrev Inv-loop : tie.InvT-loop
-Inv-loop settings cells column sought dates₀ count found₀ date₀ dates found date =
-    (date ≤ count) × Listing dates₀ (isSought settings cells column sought) date found dates
+Inv-loop settings days category sought dates₀ count found₀ date₀ dates found date =
+    (date ≤ count) × Listing dates₀ (isSought settings days category sought) date found dates
 
 abbrev μ-loop : tie.MeasureT-loop
-μ-loop settings cells column sought dates₀ count found₀ date₀ dates found date = count - date
+μ-loop settings days category sought dates₀ count found₀ date₀ dates found date = count - date
 
 abbrev start : tie.At-loop Inv-loop μ-loop → tie.Start Inv-loop μ-loop
 start c = c .before .before .before .before .before
@@ -35,10 +35,7 @@ loop-holds : tie.Need-loop-holds Inv-loop μ-loop
 loop-holds c = (omega arith, none-yet _ _)
 
 in-band-requires : tie.Need-in-band-requires Inv-loop μ-loop
-in-band-requires c κs =
-    let s = start (c .before) in
-    let low = low-enough c in
-    (s .pre .opened, low, s .pre .reaches _ low)
+in-band-requires c κs = (start (c .before) .pre, low-enough c)
 
 with-date-requires : tie.Need-with-date-requires Inv-loop μ-loop
 with-date-requires c κs =

@@ -5,27 +5,25 @@ use native.Mathlib.Omega.{arith}
 use native.Mathlib.Nat.{zero-mul}
 use borrow.Author.Needs.{needs}
 use lib.ListN.{length}
-use Rattle.ledger.specs.Ready.{ready, periods-bound}
-use Rattle.ledger.specs.Store.{categoriesOf, datesOf, periodsOf}
+use Rattle.ledger.specs.Ready.{ready}
+use Rattle.ledger.specs.Store.{categoriesOf, periodsOf}
 use Rattle.ledger.specs.Calls.{keptDays}
 use Rattle.ledger.proofs.Lists.{part-length}
-use Rattle.days.proofs.Laws.{stretch-fits, days-fit, kept-next, none-kept, next-start}
+use Rattle.store.proofs.DayLaws.{days-long, rows-fit}
+use Rattle.days.proofs.Laws.{stretch-fits, kept-next, none-kept, next-start}
 use Rattle.days.proofs.keep.keep_days.Statement.{statement}
 use Rattle.days.proofs.keep.keep_days.Tie as tie
 
 abbrev Inv-loop : tie.InvT-loop
 Inv-loop settings row date days₀ dates categories periods category₀ at₀ days category at =
     (category ≤ categoriesOf settings) × (at ≡ category * periodsOf settings) × (length days ≡ length days₀)
-    × (days ≡ keptDays (datesOf settings) (periodsOf settings) date row category days₀)
+    × (days ≡ keptDays settings date row category days₀)
 
 abbrev μ-loop : tie.MeasureT-loop
 μ-loop settings row date days₀ dates categories periods category₀ at₀ days category at = categoriesOf settings - category
 
 abbrev start : tie.At-loop Inv-loop μ-loop → tie.Start Inv-loop μ-loop
 start c = c .before .before .before .before .before .before .before
-
-abbrev head : tie.After-day-of-row Inv-loop μ-loop → tie.At-loop Inv-loop μ-loop
-head c = c .before .before .before .before
 
 -- a turn's category is one of the store
 turn : (c : tie.In-loop Inv-loop μ-loop) → c .before .loop .category < categoriesOf (start (c .before) .args .settings .now)
@@ -50,66 +48,65 @@ period-count-requires : tie.Need-period-count-requires Inv-loop μ-loop
 period-count-requires c κs = c .before .before .before .before .before .pre .0
 
 loop-holds : tie.Need-loop-holds Inv-loop μ-loop
-loop-holds c = (omega arith, sym (zero-mul _), refl, none-kept _ _ _ _ _)
+loop-holds c = (omega arith, sym (zero-mul _), refl, none-kept _ _ _ _)
 
 add-end : tie.Need-add-end Inv-loop μ-loop
 add-end c = omega (arith, fits c)
 
-mul-day-of-row : tie.Need-mul-day-of-row Inv-loop μ-loop
-mul-day-of-row c = omega (arith, fits (c .before))
+mul-entries-for : tie.Need-mul-entries-for Inv-loop μ-loop
+mul-entries-for c = omega (arith, fits c)
 
-sub-day-of-row : tie.Need-sub-day-of-row Inv-loop μ-loop
-sub-day-of-row c = search needs
+sub-entries-for : tie.Need-sub-entries-for Inv-loop μ-loop
+sub-entries-for c = search needs
 
-part-day-of-row-start : tie.Need-part-day-of-row-start Inv-loop μ-loop
-part-day-of-row-start c = search needs
+part-entries-for-start : tie.Need-part-entries-for-start Inv-loop μ-loop
+part-entries-for-start c = search needs
 
-part-day-of-row-end : tie.Need-part-day-of-row-end Inv-loop μ-loop
-part-day-of-row-end c = omega (arith, fits (c .before))
+part-entries-for-end : tie.Need-part-entries-for-end Inv-loop μ-loop
+part-entries-for-end c = omega (arith, fits c)
 
-day-of-row-requires : tie.Need-day-of-row-requires Inv-loop μ-loop
-day-of-row-requires c κs =
-    let l = c .before .before in
+entries-for-requires : tie.Need-entries-for-requires Inv-loop μ-loop
+entries-for-requires c κs =
+    let l = c .before in
     let s = start (l .before) in
-    let S = s .args .settings .now in
-    rw (width (l .before), part-length (s .args .row .now) (l .before .loop .at) (periodsOf S) (omega (arith, fits l, l .before .before .period-count .ensures)))
-    (periods-bound S (ready S (s .pre .0)) .1)
+    let S = s .args .settings .now in (
+      s .pre .0,
+      turn l,
+      rw (width (l .before)) (part-length (s .args .row .now) (l .before .loop .at) (periodsOf S) (omega (arith, fits l, l .before .before .period-count .ensures))),
+    )
 
 put-day-requires : tie.Need-put-day-requires Inv-loop μ-loop
 put-day-requires c κs =
     let l = c .before .before .before in
     let s = start (l .before) in
     let S = s .args .settings .now in
-    let k = ready S (s .pre .0) in
-    let few = turn l in
-    let inv = l .before .loop .inv in
-    rw (l .before .before .before .before .date-count .ensures) (
-      k .dates .1,
-      omega arith,
-      s .pre .2,
-      rw (inv .2) (days-fit S (s .args .days .now) (l .before .loop .category) (s .pre .1) few),
-    )
+    rows-fit S (l .before .loop .category) (s .args .date) _ (s .pre .0) (rw (l .before .loop .inv .2) (days-long S (s .args .days .now) (s .pre .1))) (turn l) (s .pre .2)
+    (l .before .before .before .before .date-count .ensures)
+
+-- the turn that a put is of
+abbrev turned : tie.After-put-day Inv-loop μ-loop → tie.In-loop Inv-loop μ-loop
+turned c = c .before .before .before .before
 
 add-category : tie.Need-add-category Inv-loop μ-loop
-add-category c = let l = head (c .before .before .before) in omega (arith, turn (c .before .before .before .before .before .before), ready _ (start l .pre .0))
+add-category c = let i = turned (c .before .before) in omega (arith, turn i, ready _ (start (i .before) .pre .0))
 
 loop-less : tie.Need-loop-less Inv-loop μ-loop
-loop-less c = omega (arith, turn (c .before .before .before .before .before .before))
+loop-less c = omega (arith, turn (turned (c .before .before)))
 
 loop-again : tie.Need-loop-again Inv-loop μ-loop
 loop-again c =
     let put = c .before .before in
-    let l = head (put .before) in
+    let i = turned put in
+    let l = i .before in
     let s = start l in
     let S = s .args .settings .now in
-    let i = put .before .before .before .before in
     let small = turn i in
     let P = periodsOf S in (
       omega (arith, small),
       next-start (l .loop .category) P (l .loop .at) (l .before .period-count .result) (l .loop .inv .1) (l .before .period-count .ensures),
       put .put-day .kept .0 ∙ l .loop .inv .2,
-      kept-next (datesOf S) P (s .args .date) (l .loop .category) (l .loop .at) (l .loop .at + l .before .period-count .result - l .loop .at) _ (s .args .row .now) (s .args .days .now) (l .loop .days) _
-          (l .loop .inv .1) (width l) (stretch-fits S (s .args .row .now) (l .loop .category) (s .pre .3) small) (put .before .day-of-row .ensures) (l .loop .inv .3)
+      kept-next S (s .args .date) (l .loop .category) (l .loop .at) (l .loop .at + l .before .period-count .result - l .loop .at) _ (s .args .row .now) (s .args .days .now) (l .loop .days) _
+          (l .loop .inv .1) (width l) (stretch-fits S (s .args .row .now) (l .loop .category) (s .pre .3) small) (put .before .before .entries-for .ensures) (l .loop .inv .3)
           (rw (← l .before .before .before .date-count .ensures) (put .put-day .ensures)),
     )
 
@@ -121,7 +118,7 @@ returns c =
     let l = c .before in
     let S = start l .args .settings .now in
     let done : l .loop .category ≡ categoriesOf S = omega (arith, c .loop-test .left, l .before .before .category-count .ensures, l .loop .inv .0) in
-    l .loop .inv .3 ∙ ap (λ n. keptDays (datesOf S) (periodsOf S) (start l .args .date) (start l .args .row .now) n (start l .args .days .now)) done
+    l .loop .inv .3 ∙ ap (λ n. keptDays S (start l .args .date) (start l .args .row .now) n (start l .args .days .now)) done
 
 pub keep-days-spec : {M : Type 1} → statement M
 keep-days-spec =
@@ -134,11 +131,11 @@ keep-days-spec =
     period-count-requires
     loop-holds
     add-end
-    mul-day-of-row
-    sub-day-of-row
-    part-day-of-row-start
-    part-day-of-row-end
-    day-of-row-requires
+    mul-entries-for
+    sub-entries-for
+    part-entries-for-start
+    part-entries-for-end
+    entries-for-requires
     put-day-requires
     add-category
     loop-less

@@ -2,8 +2,8 @@
 use Prim.Native.Nat.{_-_, _≤_}
 use native.Mathlib.Omega.{arith}
 use denote.Ref.{now}
-use Rattle.reads.specs.Sums.{Summed}
-use Rattle.reads.proofs.SumLaws.{none-yet, one-more, ends}
+use Rattle.entries.specs.Sums.{Summed}
+use Rattle.entries.proofs.SumLaws.{none-yet, one-more, ends}
 use Rattle.fill.specs.Sharing.{weightIn}
 use Rattle.fill.proofs.SharingLaws.{weighed}
 use Rattle.fill.proofs.missing.missing_sum.Statement.{statement}

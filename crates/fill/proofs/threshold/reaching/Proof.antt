@@ -5,8 +5,8 @@ use native.Mathlib.Omega.{arith}
 use lib.Dec.{leb}
 use lib.ListN.{getD}
 use Rattle.ledger.specs.Threshold.{reaching}
-use Rattle.reads.specs.Sums.{Summed}
-use Rattle.reads.proofs.SumLaws.{none-yet, one-more, ends}
+use Rattle.entries.specs.Sums.{Summed}
+use Rattle.entries.proofs.SumLaws.{none-yet, one-more, ends}
 use Rattle.fill.proofs.threshold.reaching.Statement.{statement}
 use Rattle.fill.proofs.threshold.reaching.Tie as tie
 

@@ -7,9 +7,8 @@ use denote.Ref.{now}
 use lib.ListN.{getD}
 use Rattle.ledger.specs.Method.{isBlank}
 use Rattle.entries.specs.Cell.{cellMeant}
-use Rattle.store.specs.Column.{beside, cellIn}
+use Rattle.store.specs.Column.{beside, cellIn, valueAfter, blankAfter}
 use Rattle.store.proofs.ColumnLaws.{beside-reaches}
-use Rattle.reads.specs.Figures.{valueAfter, blankAfter}
 use Rattle.net.specs.Walk.{SummedFirst}
 use Rattle.net.proofs.SideLaws.{none-first, one-further, all-first}
 use Rattle.net.proofs.periods.side_sum.Statement.{statement}

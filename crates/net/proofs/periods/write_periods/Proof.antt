@@ -8,8 +8,8 @@ use lib.IntN.{pos, _-ℤ_}
 use lib.ListN.{take}
 use Rattle.ledger.specs.Table.{filling}
 use Rattle.ledger.proofs.Lists.{filling-zero, fill, filled, filled-long}
-use Rattle.reads.specs.Sums.{Summed}
-use Rattle.reads.proofs.SumLaws.{none-yet, one-more, ends}
+use Rattle.entries.specs.Sums.{Summed}
+use Rattle.entries.proofs.SumLaws.{none-yet, one-more, ends}
 use Rattle.net.specs.Walk.{sideValue, periodNet, periodMark}
 use Rattle.net.proofs.SideLaws.{as-figure}
 use Rattle.net.proofs.periods.write_periods.Statement.{statement}

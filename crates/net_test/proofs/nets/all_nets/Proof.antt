@@ -5,10 +5,10 @@ use Rattle.net_test.proofs.nets.all_nets.Statement.{statement}
 use Rattle.net_test.proofs.nets.all_nets.Tie as tie
 
 abbrev Inv-loop : tie.InvT-loop
-Inv-loop settings cells all-groups date₀ date = Unit {0}
+Inv-loop settings cells days all-groups date₀ date = Unit {0}
 
 abbrev μ-loop : tie.MeasureT-loop
-μ-loop settings cells all-groups date₀ date = 13 - date
+μ-loop settings cells days all-groups date₀ date = 13 - date
 
 loop-holds : tie.Need-loop-holds Inv-loop μ-loop
 loop-holds c = tt

@@ -6,7 +6,7 @@ use Rattle.net_test.proofs.nets.net_line.Statement.{statement}
 use Rattle.net_test.proofs.nets.net_line.Tie as tie
 
 abbrev start : tie.After-numbers → tie.Start
-start c = c .before .before .before
+start c = c .before .before .before .before
 
 array-borrow-prefix-numbers : tie.Need-array-borrow-prefix-numbers
 array-borrow-prefix-numbers c = search needs

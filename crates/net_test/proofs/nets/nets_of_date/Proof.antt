@@ -5,10 +5,10 @@ use Rattle.net_test.proofs.nets.nets_of_date.Statement.{statement}
 use Rattle.net_test.proofs.nets.nets_of_date.Tie as tie
 
 abbrev Inv-loop : tie.InvT-loop
-Inv-loop settings cells date all-groups category₀ category = Unit {0}
+Inv-loop settings cells days date all-groups category₀ category = Unit {0}
 
 abbrev μ-loop : tie.MeasureT-loop
-μ-loop settings cells date all-groups category₀ category = 13 - category
+μ-loop settings cells days date all-groups category₀ category = 13 - category
 
 loop-holds : tie.Need-loop-holds Inv-loop μ-loop
 loop-holds c = tt

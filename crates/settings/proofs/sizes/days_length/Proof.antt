@@ -1,5 +1,4 @@
 -- `sizes::days_length` meets its contract: the product is far below 2 ^ 64.
-use Prim.Native.Nat.{_*_}
 use mathlib.Core.Path.{refl}
 use native.Mathlib.Omega.{arith}
 use native.Mathlib.Nat.{mul-le-mul}
@@ -12,7 +11,7 @@ mul-result : tie.Need-mul-result
 mul-result c = search needs
 
 mul-result-2 : tie.Need-mul-result-2
-mul-result-2 c = let a = c .args in omega (arith, mul-le-mul {n₁ = a .categories} {m₁ = 2 * a .dates} {n₂ = 64} {m₂ = 1600} (c .pre .0) (omega arith))
+mul-result-2 c = let a = c .args in omega (arith, mul-le-mul {n₁ = a .categories} {m₁ = a .dates} {n₂ = 64} {m₂ = 800} (c .pre .0) (c .pre .1))
 
 returns : tie.Need-returns
 unfolding daysLength

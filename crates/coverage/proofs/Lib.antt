@@ -1,2 +1,0 @@
--- Laws that the proofs of the coverage read share.
-pub mod Laws

@@ -1,0 +1,2 @@
+-- Laws that the proofs of these reads share.
+pub mod Laws

@@ -1,0 +1,2 @@
+-- What the contracts of these reads say beyond the ledger crate's definitions.
+pub mod DayAccepted

@@ -1,0 +1,2 @@
+-- What the contracts of the days say beyond the ledger crate's definitions.
+pub mod Window

@@ -1,4 +1,0 @@
--- What the contracts of the reads say beyond the ledger crate's definitions.
-pub mod Sums
-pub mod Figures
-pub mod ReadAccepted
