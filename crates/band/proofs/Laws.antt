@@ -16,7 +16,7 @@ use Rattle.ledger.proofs.Chosen.{chosen-few}
 use Rattle.ledger.specs.Band.{inBand}
 use Rattle.ledger.specs.Store.{datesOf, dayTypeOf, totRow, dayIndex, isRunDay, energyOf, totalsOf}
 use Rattle.ledger.specs.Calls.{entriesAt, totalsFor, overwritten}
-use Rattle.store.specs.Days.{RowsFit}
+use Rattle.store.specs.DayRows.{RowsFit}
 use Rattle.store.proofs.DayLaws.{rows-fit}
 use Rattle.band.specs.declared.dates.Sought.{Sought}
 use Rattle.band.specs.Search.{isSought, listed, MaySearch}

@@ -17,7 +17,7 @@ use Rattle.ledger.specs.Calls.{daysUnready, dayVerdict, stretchSum, datesSum, e
 use Rattle.ledger.proofs.Choices.{check-passed}
 use Rattle.ledger.proofs.Lists.{part-length, sumBelow-cong}
 use Rattle.entries.proofs.RowLaws.{part-at}
-use Rattle.store.specs.Days.{RowsFit}
+use Rattle.store.specs.DayRows.{RowsFit}
 use Rattle.store.proofs.DayLaws.{days-lent, rows-fit}
 use Rattle.day_reads.specs.DayAccepted.{DayAccepted}
 

@@ -1,7 +1,7 @@
 // The checks of a read that goes by the days.
 use settings::header::category_count;
 use settings::header::date_count;
-use store::days::is_run_day;
+use store::day_rows::is_run_day;
 use store::lent::days_unready;
 ghost use mathlib.Core.Path.{_≡_};
 ghost use Rattle.ledger.specs.Calls.{dayVerdict};

@@ -8,11 +8,11 @@ use metering::average::annual_figure;
 use settings::category::window;
 use settings::header::date_count;
 use store::access::entry_at;
-use store::days::DAY;
-use store::days::DayEntries;
-use store::days::OFF;
-use store::days::TOT;
-use store::days::day_index;
+use store::day_rows::DAY;
+use store::day_rows::DayEntries;
+use store::day_rows::OFF;
+use store::day_rows::TOT;
+use store::day_rows::day_index;
 use store::outcome::Totals;
 ghost use mathlib.Core.Path.{_≡_};
 ghost use Prim.Native.Nat.{_<_};
@@ -20,7 +20,7 @@ ghost use Rattle.metering.specs.Average.{annual};
 ghost use Rattle.ledger.specs.Store.{peakOf, totalsOf};
 ghost use Rattle.ledger.specs.Calls.{totalsFor};
 ghost use Rattle.store.specs.Outcome.{totalsMeant};
-ghost use Rattle.store.specs.Days.{entriesMeant};
+ghost use Rattle.store.specs.DayRows.{entriesMeant};
 ghost use Rattle.day_reads.specs.DayAccepted.{DayAccepted};
 
 // On a store that these calls did not make OFF may be above TOT.

@@ -19,7 +19,7 @@ use Rattle.entries.proofs.RowLaws.{part-at}
 use Rattle.ledger.proofs.Lists.{length-tabulate, tabulate-ext, part-length, sumBelow-cong}
 use Rattle.ledger.proofs.Days.{fresh-most, blanks-most, oldest-most}
 use Rattle.ledger.proofs.Kept.{for-cong}
-use Rattle.store.specs.Days.{RowsFit}
+use Rattle.store.specs.DayRows.{RowsFit}
 use Rattle.days.specs.declared.window.Stretch.{Stretch}
 use Rattle.days.specs.Window.{entriesIn, OffPeak}
 use Rattle.days.proofs.WindowLaws.{sum-of-stretch}

@@ -7,14 +7,14 @@ use settings::header::category_count;
 use settings::header::date_count;
 use settings::header::duration;
 use settings::header::period_count;
-use store::days::DayEntries;
+use store::day_rows::DayEntries;
 ghost use mathlib.Core.Path.{_≡_};
 ghost use mathlib.Core.Bool.{true};
 ghost use Prim.Native.Nat.{_*_, _<_};
 ghost use lib.ListN.{length, getD};
 ghost use Rattle.ledger.specs.Store.{settingsReady, daysReady, categoriesOf, datesOf, periodsOf, rowLength, cellOfEntry};
 ghost use Rattle.ledger.specs.Calls.{entriesFor, keptDays};
-ghost use Rattle.store.specs.Days.{entriesMeant};
+ghost use Rattle.store.specs.DayRows.{entriesMeant};
 
 // `cells` are the category's in the row.
 fn entries_for(settings: &[u8], category: u64, cells: &[u64]) -> DayEntries

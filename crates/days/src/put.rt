@@ -4,17 +4,17 @@ use entries::day::day_counts;
 use std::num::wrapping_sub_u64;
 use store::access::entry_at;
 use store::access::put_entry;
-use store::days::DAY;
-use store::days::DayEntries;
-use store::days::OFF;
-use store::days::SUMS;
-use store::days::TOT;
-use store::days::day_index;
+use store::day_rows::DAY;
+use store::day_rows::DayEntries;
+use store::day_rows::OFF;
+use store::day_rows::SUMS;
+use store::day_rows::TOT;
+use store::day_rows::day_index;
 ghost use mathlib.Core.Path.{_≡_};
 ghost use Prim.Native.Nat.{_<_, min};
 ghost use lib.ListN.{length};
 ghost use Rattle.ledger.specs.Calls.{raisedSums, placed, putDay};
-ghost use Rattle.store.specs.Days.{entriesMeant, RowsFit};
+ghost use Rattle.store.specs.DayRows.{entriesMeant, RowsFit};
 
 // How many of the dates still to come are in a window.
 fn reached(window: u64, dates: u64) -> u64

@@ -7,13 +7,13 @@ use entries::day::lower_half;
 use entries::day::origin_in;
 use entries::day::tot_entry;
 use entries::day::value_in;
-use store::days::DayEntries;
+use store::day_rows::DayEntries;
 ghost use mathlib.Core.Path.{_≡_};
 ghost use Prim.Native.Nat.{_+_, _≤_, min};
 ghost use lib.ListN.{length, getD};
 ghost use Rattle.ledger.specs.Store.{cellOfEntry, dayEntryOf};
 ghost use Rattle.entries.specs.Sums.{Summed};
-ghost use Rattle.store.specs.Days.{entriesMeant};
+ghost use Rattle.store.specs.DayRows.{entriesMeant};
 ghost use Rattle.days.specs.Window.{entriesIn};
 
 fn older(a: u32, b: u32) -> u32

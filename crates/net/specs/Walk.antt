@@ -13,7 +13,7 @@ use Rattle.ledger.specs.Store.{totRow, dayIndex, energyOf}
 use Rattle.ledger.specs.Calls.{datesSum, overwritten}
 use Rattle.store.specs.declared.column.Column.{Column}
 use Rattle.store.specs.Column.{beside, cellIn, runIn, valueAfter, blankAfter, Reaches}
-use Rattle.store.specs.Days.{RowsFit}
+use Rattle.store.specs.DayRows.{RowsFit}
 use Rattle.entries.specs.Sums.{Summed}
 
 -- over the first `count` members, with the bound that keeps the sum within 64 bits

@@ -1,8 +1,8 @@
 // TOT7 of a side, from the days.
 use day_reads::sums::dates_sum;
 use entries::day::energy_of;
-use store::days::TOT;
-use store::days::day_index;
+use store::day_rows::TOT;
+use store::day_rows::day_index;
 ghost use lib.ListN.{length};
 ghost use Rattle.net.specs.Walk.{InDays, SummedFirst, weekTot};
 

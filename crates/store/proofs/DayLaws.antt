@@ -11,7 +11,7 @@ use Rattle.ledger.specs.Sizes.{daysLength}
 use Rattle.ledger.specs.Ready.{ready}
 use Rattle.ledger.specs.Store.{categoriesOf, datesOf, settingsReady, daysReady, dayRow, dayIndex}
 use Rattle.ledger.specs.Calls.{daysUnready}
-use Rattle.store.specs.Days.{RowsFit}
+use Rattle.store.specs.DayRows.{RowsFit}
 
 pub days-long : (s days : List ℕ) → daysReady s days ≡ true → daysLength (categoriesOf s) (datesOf s) ≤ length days
 unfolding daysReady

@@ -1,5 +1,5 @@
 -- What the store's leaves say beyond the ledger crate's definitions.
 pub mod Column
-pub mod Days
+pub mod DayRows
 pub mod Meters
 pub mod Outcome

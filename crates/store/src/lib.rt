@@ -1,7 +1,7 @@
 // The lent parts beside the settings: where each thing stands in meters, readings, cells and days; and what each call answers.
 pub mod access;
 pub mod column;
-pub mod days;
+pub mod day_rows;
 pub mod lent;
 pub mod meter_call;
 pub mod meters;

@@ -2,7 +2,7 @@
 use mathlib.Core.Path.{_≡_, _∙_}
 use native.Mathlib.Omega.{arith}
 use lib.ListN.{length}
-use Rattle.store.specs.Days.{entriesMeant}
+use Rattle.store.specs.DayRows.{entriesMeant}
 use Rattle.store.proofs.DayLaws.{row-known, row-there, still-fit}
 use Rattle.days.proofs.Laws.{placed-is}
 use borrow.Author.Needs.{needs}

@@ -3,7 +3,7 @@ use mathlib.Core.Path.{_≡_, ap, _∙_}
 use native.Mathlib.Omega.{arith}
 use lib.ListN.{getD}
 use Rattle.ledger.specs.Store.{dayRow, dayIndex, countsOf}
-use Rattle.store.specs.Days.{entriesMeant}
+use Rattle.store.specs.DayRows.{entriesMeant}
 use Rattle.store.proofs.DayLaws.{row-known, row-there, still-fit}
 use Rattle.days.proofs.Laws.{put-same, put-other, counts-small}
 use borrow.Author.Needs.{needs}

@@ -7,7 +7,7 @@ use denote.Ref.{now}
 use lib.ListN.{length, getD}
 use Rattle.ledger.specs.Store.{energyOf}
 use Rattle.ledger.specs.Calls.{datesSum}
-use Rattle.store.specs.Days.{RowsFit}
+use Rattle.store.specs.DayRows.{RowsFit}
 use Rattle.net.specs.Walk.{SummedFirst, weekTot}
 use Rattle.store.proofs.DayLaws.{row-known, sum-there}
 use Rattle.net.proofs.SideLaws.{none-first, one-further, all-first}

@@ -5,8 +5,8 @@ use native.Mathlib.Omega.{arith}
 use native.Mathlib.Nat.{mul-le-mul}
 use Rattle.ledger.specs.Store.{dayIndex}
 use borrow.Author.Needs.{needs}
-use Rattle.store.proofs.days.day_index.Statement.{statement}
-use Rattle.store.proofs.days.day_index.Tie as tie
+use Rattle.store.proofs.day_rows.day_index.Statement.{statement}
+use Rattle.store.proofs.day_rows.day_index.Tie as tie
 
 -- 256 rows of 800 dates
 small : (c : tie.Start) → (4 * c .args .category + c .args .row) * c .args .dates ≤ 204800

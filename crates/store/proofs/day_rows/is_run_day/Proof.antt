@@ -1,8 +1,8 @@
 -- `days::is_run_day` meets its contract: a date not run has entry 0.
 use borrow.Author.Needs.{needs}
 use Rattle.ledger.specs.Store.{isRunDay}
-use Rattle.store.proofs.days.is_run_day.Statement.{statement}
-use Rattle.store.proofs.days.is_run_day.Tie as tie
+use Rattle.store.proofs.day_rows.is_run_day.Statement.{statement}
+use Rattle.store.proofs.day_rows.is_run_day.Tie as tie
 
 day-index-requires : tie.Need-day-index-requires
 day-index-requires c κs = search needs

@@ -1,7 +1,7 @@
 -- What the code keeps of a category's date, as the definition's; and the rows that a part has room for.
 use Prim.Native.Nat.{ℕ, _+_, _*_, _<_, _≤_}
 use Rattle.ledger.specs.Store as store
-use Rattle.store.specs.declared.days.DayEntries.{DayEntries}
+use Rattle.store.specs.declared.day_rows.DayEntries.{DayEntries}
 
 abbrev pub entriesMeant : DayEntries → store.DayEntries
 entriesMeant e = record { day = e .day; tot = e .tot; off = e .off }

@@ -1,8 +1,8 @@
 -- `days::coverage_of` meets its contract: the fields are the definition's.
 use mathlib.Core.Path.{refl}
 use Rattle.ledger.specs.Store.{coverageOf}
-use Rattle.store.proofs.days.coverage_of.Statement.{statement}
-use Rattle.store.proofs.days.coverage_of.Tie as tie
+use Rattle.store.proofs.day_rows.coverage_of.Statement.{statement}
+use Rattle.store.proofs.day_rows.coverage_of.Tie as tie
 
 returns : tie.Need-returns
 unfolding coverageOf
