@@ -7,13 +7,14 @@ use native.Mathlib.Omega.{arith}
 use borrow.Table.Steps.{cases}
 use borrow.Author.Tests.{ne-eqb}
 use lib.IntN.{pos, _-ℤ_}
+use lib.ListN.{getD}
 use Rattle.ledger.specs.Net.{activeImport, activeExport, onSide, sideOf, sumOver, netOn}
 use Rattle.ledger.specs.Band.{BandCall, inBand, bandDates, bandOn}
 use Rattle.ledger.specs.Fill.{ShapeOf, ofCategory, ofOptedOut, isOptedOutShape, shapeCategory, FillCall, weightBy, mayFill}
 use Rattle.ledger.specs.Checks.{NetCall, mayNet}
 use Rattle.ledger.specs.Ledger.{categories, dates, periods, category, dayType, Ledger, cellBy, cellAt, isPicture, isRun, totalsAt, sideAt, netAt, bandAt, shapeAt, weightAt, fillAt, coverageAt}
 use Rattle.ledger.specs.Store.{datesOf, periodsOf, rowLength, categoryOf, dayTypeOf, cellIndex, isRunAt, totRow, offRow, dayIndex, dayEntryOf, dayEntriesOf, isRunDay}
-use Rattle.ledger.specs.Calls.{rowAt, cellFor, datesSum, entriesAt, totalsFor, sideFor, weekFor, netOf, netFor, bandFor, shapeFor, weightFor, fillFor, coverageFor}
+use Rattle.ledger.specs.Calls.{rowAt, cellFor, datesSum, entriesAt, totalsFor, sideFor, weekFor, netOfSides, netFor, bandFor, shapeFor, weightFor, fillFor, coverageFor}
 use Rattle.ledger.specs.Engine.{Every}
 use Rattle.ledger.proofs.Lists.{sumBelow-cong, tabulate-ext}
 use Rattle.ledger.proofs.Days.{over, day-not-zero, recounted}
@@ -117,22 +118,18 @@ module _ (l : Ledger) (s days : List ℕ) (agree : SettingsAgree (l .opening) s)
       rw (agree .dates-are)
       (λ i. record { day = daysAgree .are c d hc hd .0 i; tot = daysAgree .are c d hc hd .2 i; off = daysAgree .are c d hc hd .3 i })
 
-  tots-are : (n d c : ℕ) → d < dates (l .opening) → c < categories (l .opening) →
-      datesSum n d (dayIndex (datesOf s) c totRow d) days ≡ over n (λ y. dayBy (l .opening) (l .pictures) c y .tot) d % 18446744073709551616
-  tots-are n d c hd hc =
-      rw (agree .dates-are)
-      (dates-sum (dates (l .opening)) c totRow n d days (λ y. dayBy (l .opening) (l .pictures) c y .tot) (λ y m. daysAgree .are c y hc (omega arith) .2))
-
-  offs-are : (n d c : ℕ) → d < dates (l .opening) → c < categories (l .opening) →
-      datesSum n d (dayIndex (datesOf s) c offRow d) days ≡ over n (λ y. dayBy (l .opening) (l .pictures) c y .off) d % 18446744073709551616
-  offs-are n d c hd hc =
-      rw (agree .dates-are)
-      (dates-sum (dates (l .opening)) c offRow n d days (λ y. dayBy (l .opening) (l .pictures) c y .off) (λ y m. daysAgree .are c y hc (omega arith) .3))
+  -- the sum of a row's entries, v of each date
+  row-sum : (r n d c : ℕ) (v : ℕ → ℕ) → d < dates (l .opening) →
+      ((y : ℕ) → y < dates (l .opening) → getD days (dayIndex (dates (l .opening)) c r y) 0 ≡ v y) →
+      datesSum n d (dayIndex (datesOf s) c r d) days ≡ over n v d % 18446744073709551616
+  row-sum r n d c v hd are = rw (agree .dates-are) (dates-sum (dates (l .opening)) c r n d days v (λ y m. are y (omega arith)))
 
   pub totals-are : (d c : ℕ) → d < dates (l .opening) → c < categories (l .opening) → isRun l d ≡ true → totalsFor s days d c ≡ totalsAt l d c
   unfolding totalsFor totalsAt isRun cellAt
   totals-are d c hd hc r =
-      rw (agree .records c hc, entries-are d c hd hc, tots-are 7 d c hd hc, offs-are 7 d c hd hc, tots-are 365 d c hd hc)
+      let tots : (n : ℕ) → _ = λ n. row-sum totRow n d c (λ y. dayBy (l .opening) (l .pictures) c y .tot) hd (λ y m. daysAgree .are c y hc m .2) in
+      let offs : (n : ℕ) → _ = λ n. row-sum offRow n d c (λ y. dayBy (l .opening) (l .pictures) c y .off) hd (λ y m. daysAgree .are c y hc m .3) in
+      rw (agree .records c hc, entries-are d c hd hc, tots 7, offs 7, tots 365)
       (totals-kept (l .opening .duration) (periods (l .opening)) (category (l .opening) c .window) (valid-periods (l .opening) (sound .valid) .1) (λ x. isPicture (l .pictures x))
       (λ x j. cellBy (l .opening) (l .pictures) x c j) (dayBy (l .opening) (l .pictures) c) d
       (λ y m. unfold dayBy in refl)
@@ -183,7 +180,7 @@ module _ (l : Ledger) (s cells days : List ℕ) (agree : SettingsAgree (l .openi
     week = rw (week-is imports (a .date) import-low hd r, week-is exports (a .date) export-low hd r) (sym (net-of-totals l a .1))
 
     pub net-is : netFor s cells days a ≡ netAt l a
-    unfolding netFor netOf netAt netOn periodsOf
+    unfolding netFor netOfSides netAt netOn periodsOf
     net-is =
         rw (agree .duration, side-is l s cells agree cellsAgree sound (a .allGroups) activeImport (a .category) hc, side-is l s cells agree cellsAgree sound (a .allGroups) activeExport (a .category) hc)
         (λ i.

@@ -143,6 +143,12 @@ sumBelow-more m zero f = rw (add-zero m) (sym (add-zero (sumBelow m f)))
 sumBelow-more m (suc n) f =
     rw (add-suc m n, sumBelow-suc (m + n) f) (let h = sumBelow-more m n f in omega arith)
 
+-- the first term apart
+pub sumBelow-front : (n : ℕ) (f : ℕ → ℕ) → sumBelow (suc n) f ≡ f 0 + sumBelow n (λ k. f (suc k))
+unfolding sumBelow
+sumBelow-front zero f = omega arith
+sumBelow-front (suc n) f = let h = sumBelow-front n f in omega arith
+
 -- n ones
 pub sumBelow-ones : (n : ℕ) → sumBelow n (λ k. 1) ≡ n
 unfolding sumBelow

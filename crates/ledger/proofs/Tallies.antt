@@ -5,7 +5,7 @@ use mathlib.Core.Bool.{Bool, true, false, _&&_, cond, and-eq-true-iff}
 use mathlib.Core.List.{List, [], _∷_, _++_}
 use mathlib.Core.Option.{Option, none, some}
 use native.Mathlib.Omega.{arith}
-use native.Mathlib.Nat.{add-zero, zero-add, add-suc, suc-add, add-assoc}
+use native.Mathlib.Nat.{add-zero, zero-add, add-suc, suc-add}
 use lib.Dec.{leb, eqb}
 use lib.ListN.{length}
 use borrow.Author.Tests.{leb-true}
@@ -13,7 +13,7 @@ use Rattle.metering.specs.Sum.{sumBelow}
 use Rattle.metering.specs.Average.{average}
 use Rattle.metering.specs.Laws.{average-le}
 use Rattle.ledger.specs.Method.{ReadingSet, Picture, wattHours, present, total, isEnough}
-use Rattle.ledger.proofs.Lists.{sumBelow-cong, sumBelow-none, sumBelow-plus, sumBelow-one}
+use Rattle.ledger.proofs.Lists.{sumBelow-cong, sumBelow-none, sumBelow-plus, sumBelow-front, sumBelow-one}
 use Rattle.ledger.specs.Checks.{Registration, inForce}
 use Rattle.ledger.specs.Ledger.{Opening, dates, periods, Meter, isHeld, heldSetsOf, pictureOf}
 use Rattle.ledger.specs.Store.{metersOf, periodsOf, isHeldAt, readingAt, registrationsAt}
@@ -87,11 +87,6 @@ module _ (measure : Option ℕ → ℕ) (chosen : ℕ → Bool) (C j : ℕ) wher
       ∙ sumBelow-one C (e .category) (λ b. cond (chosen b) (measure (e .readings j)) 0) (s .0))))
 
 -- ---- slots
-
-sumBelow-front : (n : ℕ) (f : ℕ → ℕ) → sumBelow (suc n) f ≡ f 0 + sumBelow n (λ k. f (suc k))
-unfolding sumBelow
-sumBelow-front zero f = rw (add-zero (f 0)) (zero-add (f 0))
-sumBelow-front (suc n) f = rw (sumBelow-front n f) (add-assoc (f 0) (sumBelow n (λ k. f (suc k))) (f (suc n)))
 
 module _ (o : Opening) (s meters readings : List ℕ) (agree : SettingsAgree o s) (date c j : ℕ) (h : date < dates o) (low : 1 ≤ j) (high : j ≤ periods o)
     (measure : Option ℕ → ℕ) where

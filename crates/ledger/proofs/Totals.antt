@@ -4,7 +4,7 @@ use mathlib.Core.Path.{_≡_, refl, sym, ap, _∙_}
 use mathlib.Core.Bool.{Bool, true, false, _&&_, cond}
 use mathlib.Core.List.{List}
 use native.Mathlib.Omega.{arith}
-use native.Mathlib.Nat.{zero-add, add-zero, add-assoc}
+use native.Mathlib.Nat.{add-zero, add-comm}
 use lib.Dec.{leb, eqb}
 use lib.ListN.{getD}
 use borrow.Table.Steps.{cases}
@@ -15,15 +15,10 @@ use Rattle.metering.specs.Calendar.{liesWithin, windowStart, windowEnd}
 use Rattle.ledger.specs.Method.{Cell, overRunDates, freshAmong, blanksAmong, totOn, offOn, peakOn, totalsOn}
 use Rattle.ledger.specs.Store.{dayIndex, DayEntries, notRunEntries, dayEntry, dayEntryOf, totEntry, totAmong, offAmong, dayEntriesOf, dayFresh, dayBlanks, energyOf, runDatesOf, peakOf, totalsOf}
 use Rattle.ledger.specs.Calls.{stretchSum, datesSum}
-use Rattle.ledger.proofs.Lists.{sumBelow-cong, sumBelow-none, sumBelow-most, part-le}
+use Rattle.ledger.proofs.Lists.{sumBelow-cong, sumBelow-none, sumBelow-front, sumBelow-most, part-le}
 use Rattle.ledger.proofs.Days.{over, over-cong, over-is, run-most, fresh-most, blanks-most}
 
 -- ---- a stretch of dates, the earliest first, is the dates before a date, the latest first
-
-front : (n : ℕ) (f : ℕ → ℕ) → sumBelow (suc n) f ≡ f 0 + sumBelow n (λ k. f (suc k))
-front zero f = rw (sumBelow-suc 0 f, sumBelow-zero f, sumBelow-zero (λ k. f (suc k))) (zero-add (f 0) ∙ sym (add-zero (f 0)))
-front (suc n) f =
-    rw (sumBelow-suc (suc n) f, front n f, sumBelow-suc n (λ k. f (suc k))) (add-assoc (f 0) (sumBelow n (λ k. f (suc k))) (f (suc n)))
 
 stretch-is : (n d : ℕ) (v : ℕ → ℕ) → sumBelow (min n (suc d)) (λ k. v (suc d - min n (suc d) + k)) ≡ over n v d
 unfolding over
@@ -38,17 +33,14 @@ stretch-is (suc n) d v =
     let rest = rw shorter at (stretch-is n d v) in
     let last = sumBelow-suc n (λ k. cond (leb k d) (v (d - k)) 0) in
     rw width
-    (front n (λ k. v (suc d - suc n + k))
+    (sumBelow-front n (λ k. v (suc d - suc n + k))
     ∙ rw (first, sumBelow-cong n (λ k. v (suc d - suc n + suc k)) (λ k. v (suc d - n + k)) (λ k l. ap v (let same : suc d - suc n + suc k ≡ suc d - n + k = omega arith in same)), rest)
-    (sym (last ∙ rw q (swap _ _)))))
+    (sym (last ∙ rw q (add-comm _ _)))))
     (λ q.
     let high = leb-false n d q in
     let width : min (suc n) (suc d) ≡ suc d = omega arith in
     let shorter : min n (suc d) ≡ suc d = omega arith in
     rw width (rw shorter at (stretch-is n d v) ∙ sym (sumBelow-suc n _ ∙ rw (q, add-zero))))
-  where
-    swap : (a b : ℕ) → a + b ≡ b + a
-    swap a b = omega arith
 
 -- the entries of a row, one for a date
 pub dates-sum : (T c r n d : ℕ) (days : List ℕ) (v : ℕ → ℕ) → ((y : ℕ) → y ≤ d → getD days (dayIndex T c r y) 0 ≡ v y) →

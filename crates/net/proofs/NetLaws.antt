@@ -13,7 +13,7 @@ use Rattle.metering.specs.Sum.{sumBelow}
 use Rattle.ledger.specs.Method.{Flag, A, D, E, N, Cell, isBlank}
 use Rattle.ledger.specs.Net.{sumOver, anyOf, isN, netPeriod, markOf, netTot}
 use Rattle.ledger.specs.Store.{datesOf, rowLength, totalsOf}
-use Rattle.ledger.specs.Calls.{totalsFor, weekFor, cellFor, netOf}
+use Rattle.ledger.specs.Calls.{totalsFor, weekFor, cellFor, netOfSides}
 use Rattle.ledger.proofs.Lists.{written-is}
 use Rattle.ledger.proofs.Nets.{signed-minus, sumOver-append}
 use Rattle.store.specs.declared.column.Column.{Column}
@@ -90,6 +90,6 @@ module _ (cells : List ℕ) (column : Column) (d : ℕ) (imports exports : List 
 
 pub net-asked : (s cells days : List ℕ) (c d : ℕ) {column : Column} {dates : ℕ} (imports exports : List ℕ) {tot tot7 : ℤ} {numbers numbers′ : List ℤ} {marks marks′ : List ℕ} →
     column ≡ columnOf s c → dates ≡ datesOf s → NetWritten (netIn column cells days dates imports exports d) tot tot7 numbers numbers′ marks marks′ →
-    NetWritten (netOf s cells days imports exports d) tot tot7 numbers numbers′ marks marks′
-unfolding netOf weekFor totalsFor totalsOf rowLength cellFor
+    NetWritten (netOfSides s cells days imports exports d) tot tot7 numbers numbers′ marks marks′
+unfolding netOfSides weekFor totalsFor totalsOf rowLength cellFor
 net-asked s cells days c d imports exports e t w = rw (e, t) at w

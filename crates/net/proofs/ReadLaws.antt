@@ -14,7 +14,7 @@ use Rattle.ledger.specs.Ledger.{Answer, answer, left, refused, netIs}
 use Rattle.ledger.specs.Sizes.{daysLength}
 use Rattle.ledger.specs.Ready.{Ready, ready}
 use Rattle.ledger.specs.Store.{categoriesOf, datesOf, periodsOf, rowLength, categoryOf, settingsReady, isRunAt}
-use Rattle.ledger.specs.Calls.{sideFor, daysUnready, netVerdict, netOf, netFor, overwritten}
+use Rattle.ledger.specs.Calls.{sideFor, daysUnready, netVerdict, netOfSides, netFor, overwritten}
 use Rattle.ledger.specs.Engine.{Every}
 use Rattle.ledger.proofs.Lists.{length-tabulate, front-is}
 use Rattle.ledger.proofs.Chosen.{chosen-below}
@@ -118,18 +118,18 @@ module _ (s cells days : List ℕ) (allGroups : Bool) (date category : ℕ) (num
 
   -- the lists and numbers of the net, at the front of the lists lent
   periods-long : length (net .periods) ≡ periodsOf s
-  unfolding netFor netOf
+  unfolding netFor netOfSides
   periods-long = length-tabulate (periodsOf s) _
 
   marks-long : length (net .marks) ≡ periodsOf s
-  unfolding netFor netOf
+  unfolding netFor netOfSides
   marks-long = length-tabulate (periodsOf s) _
 
   pub accepts : (tot tot7 : ℤ) (numbers′ : List ℤ) (marks′ : List ℕ) (imports exports : List ℕ) (importCount exportCount m : ℕ) →
       m ≡ v .number → m ≡ 0 →
       Listed (sideFor s allGroups activeImport category) imports importCount →
       Listed (sideFor s allGroups activeExport category) exports exportCount →
-      NetWritten (netOf s cells days (take importCount imports) (take exportCount exports) date) tot tot7 numbers numbers′ marks marks′ →
+      NetWritten (netOfSides s cells days (take importCount imports) (take exportCount exports) date) tot tot7 numbers numbers′ marks marks′ →
       Meets (netIs (record { tot = tot; tot7 = tot7; periods = take (periodsOf s) numbers′; marks = take (periodsOf s) marks′ })) numbers′ marks′
   accepts tot tot7 numbers′ marks′ imports exports importCount exportCount m is none i e w =
       let written : NetWritten net tot tot7 numbers numbers′ marks marks′ = (unfold netFor in rw (i .are, e .are) at w) in

@@ -1,16 +1,15 @@
 -- Sums over the categories at the front of an array, and what is written for the periods of a date.
-use Prim.Native.Nat.{ℕ, suc, _+_, _*_, _≤_, _<_}
+use Prim.Native.Nat.{ℕ, _+_, _*_, _≤_, _<_}
 use mathlib.Core.Path.{_≡_}
 use mathlib.Core.Bool.{cond}
 use mathlib.Core.List.{List}
 use lib.Dec.{eqb}
 use lib.ListN.{length, getD, take}
 use lib.IntN.{ℤ, pos, _-ℤ_}
-use Rattle.ledger.specs.Method.{Cell}
-use Rattle.ledger.specs.Table.{tabulate, filling}
-use Rattle.ledger.specs.Net.{sumOver, Net, netPeriod, markOf, netTot}
+use Rattle.ledger.specs.Table.{filling}
+use Rattle.ledger.specs.Net.{sumOver, Net}
 use Rattle.ledger.specs.Store.{totRow, dayIndex, energyOf}
-use Rattle.ledger.specs.Calls.{datesSum, overwritten}
+use Rattle.ledger.specs.Calls.{datesSum, netWith, overwritten}
 use Rattle.store.specs.declared.column.Column.{Column}
 use Rattle.store.specs.Column.{beside, cellIn, runIn, valueAfter, blankAfter, Reaches}
 use Rattle.store.specs.DayRows.{RowsFit}
@@ -69,14 +68,8 @@ pub record InDays (L dates d : ℕ) (members : List ℕ) (count : ℕ) : Type 0 
 
 abbrev pub netIn : Column → List ℕ → List ℕ → ℕ → List ℕ → List ℕ → ℕ → Net
 netIn column cells days dates imports exports d =
-    let ran = runIn column cells in
-    let cell : ℕ → ℕ → ℕ → Cell = λ x c j. cellIn (beside column c) cells x j in
-    record {
-      tot = netTot (column .periods) ran cell imports exports d;
-      tot7 = pos (sumOver imports (weekTot days dates d)) -ℤ pos (sumOver exports (weekTot days dates d));
-      periods = tabulate (column .periods) (λ k. netPeriod (column .periods) ran cell imports exports d (suc k));
-      marks = tabulate (column .periods) (λ k. markOf (column .periods) ran cell imports exports d (suc k));
-    }
+    netWith (pos (sumOver imports (weekTot days dates d)) -ℤ pos (sumOver exports (weekTot days dates d))) (column .periods) (runIn column cells)
+    (λ x c j. cellIn (beside column c) cells x j) imports exports d
 
 -- all checks have passed, and both sides are found
 pub record MayWrite (cells : List ℕ) (column : Column) (L dates d : ℕ) (imports : List ℕ) (importCount : ℕ) (exports : List ℕ) (exportCount numbers marks : ℕ) : Type 0 where
