@@ -8,9 +8,9 @@
    (1 to 7 are readings, 8 to 14 none), Wh. Numbers are digits alone, without blanks or quotes.
    Neighbouring lines of one MPAN and date are a meter day. The engine says what else is wrong.
 
-   STORE is the file that the store is saved to: a number that marks such files, the lengths of
-   meters, readings, cells, days and settings, then these parts, all in the machine's own byte
-   order. */
+   STORE is the file that the store is saved to: a number that marks such files and the
+   layout of the parts, the lengths of meters, readings, cells, days and settings, then these
+   parts, all in the machine's own byte order. */
 #include "jihoweka.h"
 
 #include <inttypes.h>
@@ -41,7 +41,7 @@ static void fail(const char *path, const char *what) {
 /* ---- the store: five parts in one block, behind the header of the file that it is saved to */
 
 enum { HEADER = 6 };
-#define MARK 0x6A69686F77656B61u
+#define MARK (0x6A69686F77650000u + JIHOWEKA_LAYOUT)
 
 struct store {
     uint64_t *header, *meters, *readings, *cells, *days;
@@ -84,7 +84,7 @@ static void save(const struct store *s, const char *path) {
     printf("save: %zu bytes\n", s->bytes);
 }
 
-/* The lengths must be those of this store. Calls keep to them whatever the parts hold. */
+/* Layout and lengths must be those of this store. Calls keep to them whatever the parts hold. */
 static void load(struct store *s, const char *path) {
     uint64_t header[HEADER];
     FILE *file = fopen(path, "rb");
@@ -92,7 +92,7 @@ static void load(struct store *s, const char *path) {
     memcpy(header, s->header, sizeof header);
     if (fread(s->header, 1, s->bytes, file) != s->bytes || getc(file) != EOF ||
         memcmp(s->header, header, sizeof header) != 0)
-        fail(path, "is no store of this size");
+        fail(path, "is no store of this size and layout");
     fclose(file);
     printf("load: %zu bytes\n", s->bytes);
 }

@@ -91,6 +91,7 @@ mod c {
 
 // ---- the wrapper
 
+const LAYOUT: u64 = 4;
 const FIELDS: usize = 11;
 const NO_ORIGIN: i64 = 65535;
 
@@ -355,7 +356,7 @@ impl Store {
 
     fn header(&self) -> Vec<u8> {
         let numbers = [&self.meters, &self.readings, &self.cells, &self.days].map(Vec::len);
-        let mut header = 0x6A69686F77656B61_u64.to_ne_bytes().to_vec();
+        let mut header = (0x6A69686F77650000_u64 + LAYOUT).to_ne_bytes().to_vec();
         for length in numbers.into_iter().chain([self.settings.len()]) {
             header.extend((length as u64).to_ne_bytes());
         }
@@ -372,7 +373,7 @@ impl Store {
         Ok(bytes.len())
     }
 
-    /// The lengths must be those of this store. Calls keep to them whatever the parts hold.
+    /// Layout and lengths must be those of this store. Calls keep to them whatever the parts hold.
     fn load(&mut self, path: &str) -> Result<usize, String> {
         let bytes = std::fs::read(path).map_err(|_| format!("{path}: cannot be read"))?;
         let numbers =
@@ -380,7 +381,7 @@ impl Store {
         let header = self.header();
         let length = header.len() + 8 * numbers + self.settings.len();
         if bytes.len() != length || !bytes.starts_with(&header) {
-            return Err(format!("{path}: is no store of this size"));
+            return Err(format!("{path}: is no store of this size and layout"));
         }
         let (entries, settings) = bytes[header.len()..].split_at(8 * numbers);
         let parts = [&mut self.meters, &mut self.readings, &mut self.cells, &mut self.days];

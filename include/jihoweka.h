@@ -14,7 +14,7 @@
    Their least lengths are the macros below. Parts may be longer: what stands past the least length
    is neither read nor written. jihoweka_open makes a new, empty store and overwrites what the parts
    held. A store that was saved and loaded byte for byte is used as it is, and not opened again;
-   that holds for one version of the library and one byte order. Parts full of zeros are unopened.
+   that holds for one JIHOWEKA_LAYOUT and one byte order. Parts full of zeros are unopened.
    Header and library go together: a later version may lay the parts out anew, and its calls may be
    lent other parts.
 
@@ -82,7 +82,7 @@ enum jihoweka_number {
     JIHOWEKA_NOTHING_TO_FILL = 17,    /* no period is missing, or the values of those that are add
                                          up to 0 */
     JIHOWEKA_NO_PARTNER = 26,         /* not Smart import, or no export category to net it with */
-    JIHOWEKA_SENDER = 1001,           /* not that of the registration in force */
+    JIHOWEKA_SENDER = 1001,           /* not the one appointed at midday of the date */
     JIHOWEKA_QUANTITY = 1002,         /* not that of its category */
     JIHOWEKA_DURATION = 1004,         /* not that of the store */
     JIHOWEKA_END_MINUTE = 1005,       /* closes no period (place) */
@@ -94,6 +94,8 @@ enum jihoweka_number {
 };
 
 enum {
+    JIHOWEKA_LAYOUT = 4,              /* of the parts; another one has other entries, also where all
+                                         lengths are the same */
     JIHOWEKA_FIELDS = 11,             /* entries that `fields` has at least */
     JIHOWEKA_CATEGORY_BYTES = 8,      /* of a category record */
     JIHOWEKA_RECORD_BYTES = 7,        /* of a record of a body */
@@ -158,7 +160,10 @@ uint64_t jihoweka_open(
     const uint8_t *day_types, size_t day_types_length,
     int64_t *fields, size_t fields_length);
 
-/* Registers a meter: from `date` on where minute is 0, else from the date after it. Writes meters.
+/* Registers a meter. Category, status and limit are in force from `date` on where minute is 0, else
+   from the date after it; the sender is appointed from `date` on where minute is at most 720, its
+   midday, else from the date after it. Either lasts until that of a later registration. Writes
+   meters.
      mpan    13 digits. The first twelve times 3, 5, 7, 13, 17, 19, 23, 29, 31, 37, 41, 43, summed,
              modulo 11 and then modulo 10, are the last.
      minute  0 to 1439
@@ -180,7 +185,8 @@ uint64_t jihoweka_register(
     int64_t *fields, size_t fields_length);
 
 /* Takes a meter day in place of the one held. Writes readings.
-     sender, quantity, duration  those of the registration in force, of its category, of the store
+     sender              the one appointed at midday of the date
+     quantity, duration  that of the category in force, that of the store
      body  records of 7 bytes each (the length is in bytes), in any order, the high byte first: end
            minute (2), quality (1), Wh (4). Qualities 1 to 7 (A, A1, A2, A3, AAE1, AAE2, AAE3) are
            readings; 8 to 14 (E2, E6, ZE, ZE1, ZE2, ZE3, any other) are accepted and are none. Not

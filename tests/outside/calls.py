@@ -166,7 +166,7 @@ class Caller:
         self.store.replace({**parts, 'settings': settings})
 
     def damage(self):
-        """Other entries here and there, and registrations for categories that there are not."""
+        """Other entries here and there, and registrations for categories or dates that are none."""
         rng, aims = self.rng, self.aims
         if self.store.ledger is not None:
             self.intact = dict(self.store.parts)
@@ -182,6 +182,11 @@ class Caller:
             entry = aims.meters + 40 * rng.randrange(min(aims.meters, 3)) + 1
             number = len(aims.categories) + rng.choice((0, 1, 2 ** 8, 2 ** 32, 2 ** 63))
             struct.pack_into('Q', parts['meters'], 8 * entry, number)
+        if self.chance(0.5):               # also at midday, and as late as there are numbers
+            entry = aims.meters + 40 * rng.randrange(min(aims.meters, 3)) + 5 * rng.randrange(2)
+            moment = DAY * rng.choice(self.dates) + rng.choice((0, 1, 719, 720, 721, 1439))
+            moment = rng.choice((moment, moment, 2 ** 64 - 1, 2 ** 64 - rng.randint(1, 2 * DAY)))
+            struct.pack_into('Q', parts['meters'], 8 * entry, moment)
         self.store.replace({part: bytes(contents) for part, contents in parts.items()})
 
     # Arguments
@@ -268,8 +273,9 @@ class Caller:
     def registration(self):
         rng, mpan = self.rng, self.rng.choice(self.mpans)
         first = mpan not in self.aims.registrations and self.chance(0.9)
+        minute = rng.choice((1, 719, 720, 720, 721, rng.randrange(DAY)))
         return [mpan, 0 if first else rng.choice(self.dates),
-                0 if first or self.chance(0.6) else rng.randrange(DAY), self.category(),
+                0 if first or self.chance(0.5) else minute, self.category(),
                 rng.choice((7, 7, 8, 0, 65535)), rng.choice((1, 1, 1, 1, 1, 1, 2, 3)),
                 rng.choice((1000, 1000, 1000, 5, 0, TOP))]
 
@@ -279,8 +285,10 @@ class Caller:
             known = self.chance(0.95) and list(aims.registrations)
             mpan, date = rng.choice(known or self.mpans), rng.choice(self.dates)
         self.waiting.append(date)
-        registration = aims.in_force(mpan, date) or Registration(0, 0, 7, 1, 1000)
-        return [registration.sender, mpan, date, aims.duration,
+        registration = aims.in_force(mpan, date) or Registration(0, 0, 0, 7, 1, 1000)
+        appointed = aims.appointed(mpan, date) or registration
+        sender = appointed.sender if self.chance(0.95) else registration.sender
+        return [sender, mpan, date, aims.duration,
                 aims.categories[registration.category].quantity, self.body(registration)]
 
     def body(self, registration):

@@ -231,7 +231,7 @@ def unusable():
     yield None, 'store', 'day.csv: cannot be read'
     yield HEAD + good, 'none/store', 'none/store: cannot be written'
     yield HEAD + good, '/dev/full', '/dev/full: cannot be written'
-    yield HEAD + good, '/dev/null', '/dev/null: is no store of this size'
+    yield HEAD + good, '/dev/null', '/dev/null: is no store of this size and layout'
     for text in ('', '\n', HEAD[:-1], HEAD[1:], good, HEAD.replace(',Wh', '')):
         yield text, 'store', malformed.format(1)
     for row in ('', '1,0,00:30,1', '1,0,00:30,1,5,', '1,0,0030,1,5', '1,0,00:60,1,5',

@@ -4,7 +4,7 @@
 
 Writes NAME/stdin and NAME/stdout into DIRECTORY: for the programs shaper (the
 paper's worked example), shaper_wide and net_test, which writes the nets of its
-store behind the answers; and late_day and refusals, two more for shaper.
+store behind the answers; and late_day, midday and refusals, three more for shaper.
 Answers and nets are the plain ledger's.
 """
 
@@ -74,6 +74,32 @@ def late_day():
     downward += b''.join(map(run, range(7, 0, -1))) + look((7,))
     downward += receive(FIRST, 0, whole_day(500)) + run(0) + look((1, 3, 7))
     return upward + downward
+
+
+def midday():
+    """A data service changes at 09:00, and its successor sends the day of the change."""
+    first, second = (1, 1, 1, 1, 1, 0, 0, 1), (1, 1, 1, 1, 2, 0, 0, 1)
+    story = open_store([first, second], [1] * 4) + register(FIRST, sender=7)
+    story += receive(FIRST, 0, whole_day(40)) + run(0)
+    # 09:00 of date 1, with a category and a limit that start on date 2.
+    story += register(FIRST, date=1, minute=540, category=1, sender=8, limit=10)
+    story += receive(FIRST, 1, whole_day(50), sender=7) + receive(FIRST, 1, whole_day(50), sender=8)
+    story += run(1) + look((1,), 0) + look((1,), 1)
+    story += receive(FIRST, 2, whole_day(50), sender=8) + receive(FIRST, 2, whole_day(10), sender=7)
+    # 12:01 of date 2 is too late for that date, 12:00 would not be.
+    story += register(FIRST, date=2, minute=721, sender=9)
+    story += receive(FIRST, 2, whole_day(10), sender=9) + receive(FIRST, 2, whole_day(10), sender=8)
+    story += run(2) + look((2,), 0) + look((2,), 1)
+    story += receive(FIRST, 3, whole_day(60), sender=8) + receive(FIRST, 3, whole_day(60), sender=9)
+    story += register(SECOND, date=1, sender=3) + receive(SECOND, 2, whole_day(20), sender=3)
+    story += register(SECOND, date=2, minute=720, sender=4)
+    story += receive(SECOND, 2, whole_day(30), sender=3) + receive(SECOND, 2, whole_day(30), sender=4)
+    # A meter that is first registered at 10:00 of date 1 has a sender there, and no category.
+    story += register(THIRD, date=1, minute=600, sender=5) + receive(THIRD, 1, [], sender=5)
+    story += receive(THIRD, 2, whole_day(80), sender=5) + run(2) + run(3) + look((2, 3))
+    # The same start as 10:00 of date 1; and a start past the last date.
+    story += register(THIRD, date=2, sender=6) + register(FOURTH, date=3, minute=540)
+    return story
 
 
 def refusals():
@@ -193,6 +219,7 @@ def net_line(ledger, date, category, all_groups, numbers=50, marks=50):
 
 STREAMS = {'shaper': (INPUT, PROFILES['small']),
            'late_day': (late_day(), PROFILES['small']),
+           'midday': (midday(), PROFILES['small']),
            'refusals': (refusals(), PROFILES['small']),
            'shaper_wide': (wide(), PROFILES['wide']),
            'net_test': (net_store(), Limits(12, 12, 12 * 48, 12))}

@@ -4,8 +4,8 @@
 
 Its functions with those that the crate `jihoweka` exports, parameter by parameter,
 and with the symbols of LIBRARY, which needs memcpy and memset and nothing else; its
-numbers with those of the calls; its least lengths, as the compiler works them out,
-with the definitions that the proofs cite.
+numbers with those of the calls; its layout with that of docs/STORE.md; its least
+lengths, as the compiler works them out, with the definitions that the proofs cite.
 """
 
 import pathlib
@@ -102,6 +102,8 @@ def main():
         heard = list(dict.fromkeys(checks()[call.function]))
         assert heard == list(call.checks), f'{call.function}: checks differ'
     assert f'JIHOWEKA_FIELDS = {FIELDS},' in HEADER
+    layout, = re.findall(r'JIHOWEKA_LAYOUT = (\d+),', HEADER)
+    assert f'This is layout {layout}' in (ROOT / 'docs' / 'STORE.md').read_text()
     sizes = list(product((15, 30), (1, 2, 3, 1023, 1024), (1, 2, 63, 64), (1, 2, 799, 800)))
     defined = definitions()
     for (duration, M, C, T), lengths in zip(sizes, worked_out(sizes), strict=True):

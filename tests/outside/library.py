@@ -5,8 +5,8 @@ first entry and a page behind its last that nobody may touch: an access past its
 end ends the process, and a write before it is found.
 
 On a store that the calls made, every answer must be the ledger's. On any other,
-totals, nets, bands and coverage must be what the parts lent for them say. Of the
-other calls only what holds of every store is tested: the refusals for lengths and
+receptions, totals, nets, bands and coverage must be answered by what the parts lent
+for them say. Of the other calls only what holds of every store is tested: the refusals for lengths and
 for arguments out of range, what else a call may answer, and what it must leave
 alone. The days that a run leaves are worked out on every store, from those before
 it and the cells before and after it.
@@ -18,8 +18,8 @@ import struct
 import sys
 from typing import NamedTuple
 
-from ledger import (DAY, EXPORT, IMPORT, SMART, WINDOWS, Category, Ledger, mpan_good, no, opening,
-                    rounded, window_periods)
+from ledger import (DAY, EXPORT, IMPORT, SMART, WINDOWS, Category, Ledger, Registration, mpan_good,
+                    no, opening, rounded, window_periods)
 
 FIELDS = 11                                # entries that `fields` has at least
 HEADER = '>4H'                             # of the settings: duration, meters, categories, dates
@@ -324,6 +324,29 @@ class Store:
         key = 1, given['group'], 1, given['quantity'], given['connection']
         return any(category.key == key for category in self.opening_kept(given).categories)
 
+    def registrations_kept(self, given):
+        """Those of the MPAN in its slot, up to the first unused one, whatever their entries are."""
+        meters, count, mpan = given['meters'], self.sizes.meters, given['mpan']
+        slots = struct.unpack_from(f'{count}Q', meters)
+        slot = next((place for place, kept in enumerate(slots) if kept in (mpan, 0)), count)
+        registrations = []
+        while slot < count and slots[slot] == mpan and len(registrations) < 8:
+            at = count + 40 * slot + 5 * len(registrations)
+            moment, category, sender, status, limit = struct.unpack_from('5Q', meters, 8 * at)
+            if status == 0:
+                break
+            registrations.append(Registration(*divmod(moment, DAY), category, sender, status, limit))
+        return registrations
+
+    def reception_kept(self, given):
+        mpan, date, kept = given['mpan'], given['date'], self.opening_kept(given)
+        # The engine takes the last of equals, the ledger, which has none, the first.
+        kept.registrations[mpan] = self.registrations_kept(given)[::-1]
+        current = kept.in_force(mpan, date)
+        if current is not None and current.category >= self.sizes.categories:
+            return no(2)
+        return kept.reception(*(given[argument] for argument in CALLS['reception'].arguments))
+
     def category_rows(self, given, category):
         """The rows of a category in days: day, sums, TOT and OFF, each with an entry for a date."""
         dates, width = self.sizes.dates, WIDTHS['days']
@@ -401,7 +424,7 @@ class Store:
 
     def test_possible(self, name, given, came):
         """What holds of all other answers on any store."""
-        if name in ('totals', 'net', 'band', 'coverage'):
+        if name in ('reception', 'totals', 'net', 'band', 'coverage'):
             due = getattr(self, f'{name}_kept')(given)
             if came != due:
                 raise Difference(f'the parts say {due}\ncame          {came}')

@@ -4,12 +4,12 @@
 
 First hand-made inputs for the forms of commands. Then a second, slower
 calculation: each cell straight from the list of accepted calls by the rules in
-the order the paper gives them, moved by comparing every cell of every date,
-totals by minutes and fractions, nets by adding each cell with its sign, bands by
-adding each date's cells, fills by whole numbers, one Wh after the other, coverage
-by the age of each cell's date. Then known slips: the ledger's text is changed in
-one place, and some stream, or for nets, bands, fills, coverage and totals after
-reruns some random store, must hear the difference.
+the order the paper gives them, senders by who has taken over by noon, moved by
+comparing every cell of every date, totals by minutes and fractions, nets by adding
+each cell with its sign, bands by adding each date's cells, fills by whole numbers,
+one Wh after the other, coverage by the age of each cell's date. Then known slips:
+the ledger's text is changed in one place, and some stream, or for nets, bands, fills,
+coverage and totals after reruns some random store, must hear the difference.
 """
 
 import random
@@ -43,13 +43,21 @@ class Doubled(ledger.Ledger):
             self.calls.append(call)
         return answer
 
-    def registration(self, mpan, date, minute, category, *rest):
-        return self.note(super().registration(mpan, date, minute, category, *rest),
-                         'registration', mpan, date + (minute > 0), category)
+    def registration(self, mpan, date, minute, category, sender, *rest):
+        return self.note(super().registration(mpan, date, minute, category, sender, *rest),
+                         'registration', mpan, date + (minute > 0), category,
+                         24 * 60 * date + minute, sender)
 
     def reception(self, sender, mpan, date, duration, quantity, body):
-        return self.note(super().reception(sender, mpan, date, duration, quantity, body),
-                         'reception', mpan, date, bytes(body))
+        answer = super().reception(sender, mpan, date, duration, quantity, body)
+        if answer[0] == 'ok' or answer[1] not in (9, 6, 7):
+            noon, there = 24 * 60 * date + 12 * 60, None
+            for kind, *call in self.calls:
+                if kind == 'registration' and call[0] == mpan and call[3] <= noon:
+                    there = call[4]        # who has taken over by noon
+            assert (answer == ('no', 1001, 0)) == (sender != there)
+            Doubled.checked += 1
+        return self.note(answer, 'reception', mpan, date, bytes(body))
 
     def last_run(self, calls, date):
         """The place after the last run of the date among the first so many calls."""
@@ -423,6 +431,17 @@ FORMS = [
     # An empty set on a date never run counts for 11.
     (OPEN + f'13 {M} 0000 0000 00 0007 01 00002710 14 0007 {M} 0001 1E 01 00'
      f'13 {M} 0001 0000 00 0007 01 00002710', '10 ok|13 ok|14 ok|13 no 11 0'),
+    # Minute 720 of date 0 is in time for it, 721 is not; the category starts on date 1 in both.
+    (OPEN + f'13 {M} 0000 0000 00 0007 01 00002710 13 {M} 0000 02D0 00 0008 01 00000005'
+     f'14 0007 {M} 0000 1E 01 00 14 0008 {M} 0000 1E 01 01 15 001E 01 00002710',
+     '10 ok|13 ok|13 ok|14 no 1001 0|14 ok'),
+    (OPEN + f'13 {M} 0000 0000 00 0007 01 00002710 13 {M} 0000 02D1 00 0008 01 00000005'
+     f'14 0008 {M} 0000 1E 01 00 14 0007 {M} 0000 1E 01 00 14 0007 {M} 0001 1E 01 00'
+     f'14 0008 {M} 0001 1E 01 01 15 001E 01 00000006',
+     '10 ok|13 ok|13 ok|14 no 1001 0|14 ok|14 no 1001 0|14 no 1012 1'),
+    # A sender without a category in force: 7, whoever sends.
+    (OPEN + f'13 {M} 0000 0258 00 0007 01 00002710 14 0007 {M} 0000 1E 01 00'
+     f'14 0008 {M} 0000 1E 01 00 14 0007 {M} 0001 1E 01 00', '10 ok|13 ok|14 no 7 0|14 no 7 0|14 ok'),
     # A disconnected meter may send nothing but an empty set.
     (OPEN + f'13 {M} 0000 0000 00 0007 03 00002710 14 0007 {M} 0000 1E 01 00'
      f'14 0007 {M} 0000 1E 01 01 15 001E 01 00000000', '10 ok|13 ok|14 ok|14 no 1009 1'),
@@ -468,6 +487,21 @@ SLIPS = [
     ('leaves the own readings out of the family', "len(wh) >= least:",
      "len(wh) >= least and not (flag == 'D' and number in own and period in own[number]):"),
     ('carries N as E', "cell.flag in 'EN'", "cell.flag in 'E'"),
+    ('appoints the sender at the start of the date', 'self.appointed(mpan, date).sender',
+     'registration.sender'),
+    ('has a sender that was appointed at midday wait', '<= (date, MIDDAY)', '< (date, MIDDAY)'),
+    ('has one that was appointed a minute later send', 'MIDDAY = 720', 'MIDDAY = 721'),
+    ('has one that was appointed in the evening send', 'MIDDAY = 720', 'MIDDAY = 1439'),
+    ('takes the first service of several', 'max(appointed, key=', 'min(appointed, key='),
+    ('takes the earlier service of two on one date', 'max(appointed, key=lambda r: r.moment,',
+     'max(appointed, key=lambda r: (r.date, -r.minute),'),
+    ('takes status, limit and quantity at midday', 'registration = self.in_force(mpan, date)\n',
+     'registration = self.in_force(mpan, date) and self.appointed(mpan, date)\n'),
+    ('accepts a day by the sender alone', 'registration = self.in_force(mpan, date)\n',
+     'registration = self.in_force(mpan, date) or self.appointed(mpan, date)\n'),
+    ('counts a set for the category of midday', '[(self.in_force(mpan, date).category,',
+     '[(self.appointed(mpan, date).category,'),
+    ('starts at once before midday', 'if self.minute == 0 else', 'if self.minute <= 720 else'),
     ('gives PEAK without a window', 'if window else 0', ''),
     ('counts seven run dates, not calendar dates', 'week, year = self.run_dates(date, 7)',
      'week, year = self.run_dates(date, 365)[-7:]'),

@@ -10,7 +10,7 @@ import argparse
 import random
 import sys
 
-from ledger import DAY, WEIGHTS, Category, Ledger, Opened, Registration, opening
+from ledger import DAY, MIDDAY, WEIGHTS, Category, Ledger, Opened, Registration, opening
 from program import PROFILES
 
 TOP = 2 ** 32 - 1                          # the largest Wh and limit
@@ -48,6 +48,9 @@ class Notes(Opened):
 
     def in_force(self, mpan, date):
         return [r for r in self.registrations[mpan] if r.start <= date][-1]
+
+    def sender(self, mpan, date):
+        return [r for r in self.registrations[mpan] if r.moment <= (date, MIDDAY)][-1].sender
 
 
 class Maker:
@@ -232,7 +235,11 @@ class Maker:
             start += self.pick({0: 6, 1: 2, 2: 1})
         elif self.chance(0.3):
             start = rng.randrange(notes.dates)
-        return Registration(start, rng.randrange(len(notes.categories)),
+        date, minute = start, 0
+        if start and self.chance(0.4):     # on the date before, often about midday
+            date, minute = start - 1, rng.choice((1, 1439, rng.randint(1, 1439), rng.randint(1, 719),
+                                                  719, 720, 720, 721))
+        return Registration(date, minute, rng.randrange(len(notes.categories)),
                             rng.choice((7, 7, 8, 0, 65535)), self.pick({1: 20, 2: 2, 3: 1}),
                             rng.choice((10000, 10000, 600, 5, 0, TOP, TOP - 1)))
 
@@ -244,11 +251,9 @@ class Maker:
             if fresh and len(notes.registrations) < notes.meters and self.chance(0.8):
                 mpan = rng.choice(fresh)
         wanted = self.new_registration(mpan)
-        date, minute = wanted.start, 0
-        if date >= notes.dates and self.chance(0.7):
+        if wanted.start >= notes.dates and self.chance(0.7):
             return                         # no start left for this meter
-        if date and self.chance(0.4):
-            date, minute = date - 1, rng.choice((1, 1439, rng.randint(1, 1439)))
+        date, minute = wanted.moment
         category, status = wanted.category, wanted.status
         faults = self.faults(('date', 'mpan', 'mpan', 'minute', 'category', 'status',
                               'late', 'start', 'start', 'start', 'meter', 'meter'))
@@ -323,12 +328,15 @@ class Maker:
         first = notes.registrations[mpan][0].start
         if date is None:
             date = rng.choice(self.busy)
+            changes = [r.date for r in notes.registrations[mpan] if r.minute and r.date >= first]
             if date < first or self.chance(0.15):
                 date = rng.randrange(first, notes.dates)
+            elif changes and self.chance(0.2):
+                date = rng.choice(changes)  # a date on which the service changes
         if date < first:
             return None
         registration = notes.in_force(mpan, date)
-        sender, duration = registration.sender, notes.duration
+        sender, duration = notes.sender(mpan, date), notes.duration
         quantity = notes.categories[registration.category].quantity
         records = self.new_records(registration.status, registration.limit)
         refused = registration.status == 3 and self.chance(0.6)
@@ -347,9 +355,11 @@ class Maker:
             elif fault == 'unknown':
                 mpan = rng.choice(self.pool)
             elif fault == 'early':
-                date = rng.randrange(first) if first else date
+                date = rng.choice((first - 1, rng.randrange(first))) if first else date
             elif fault == 'sender':
-                sender = rng.choice((sender ^ 1, sender ^ 0x8000))
+                # That of another time may be the same one after all.
+                sender = rng.choice((sender ^ 1, sender ^ 0x8000, registration.sender,
+                                     rng.choice(notes.registrations.get(mpan, [registration])).sender))
             elif fault == 'quantity':
                 quantity = rng.choice((3 - quantity % 3, 0, 3, 255))
             elif fault == 'duration':
@@ -445,11 +455,12 @@ class Maker:
         if notes.registrations:
             mpan = rng.choice(list(notes.registrations))
             date = rng.randrange(notes.registrations[mpan][0].start, notes.dates)
-            _, category, sender, status, limit = notes.in_force(mpan, date)
-            if status != 3:
-                records = [[j * notes.duration, 1, limit] for j in range(1, notes.periods + 1)]
-                self.send_reception(sender, mpan, date, notes.duration,
-                                    notes.categories[category].quantity, records)
+            registration = notes.in_force(mpan, date)
+            if registration.status != 3:
+                records = [[j * notes.duration, 1, registration.limit]
+                           for j in range(1, notes.periods + 1)]
+                self.send_reception(notes.sender(mpan, date), mpan, date, notes.duration,
+                                    notes.categories[registration.category].quantity, records)
                 notes.held.setdefault(mpan, set()).add(date)
                 self.run(date)
 

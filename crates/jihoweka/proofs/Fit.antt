@@ -70,15 +70,15 @@ unfolding openingVerdict
 opening-fits S M R C K a =
     let low : openingVerdict S M R C K a .place ≤ 800 = opening-place a _ in answer-fits (openingVerdict S M R C K a) accepted (omega arith) (λ e. tt)
 
-in-force-place : (duration C : ℕ) (category : ℕ → Category) (a : ReceptionCall) (r : Option Registration) → inForceCheck duration C category a r .place ≤ length (a .body) / 7
+in-force-place : (duration C : ℕ) (category : ℕ → Category) (a : ReceptionCall) (x r : Option Registration) → inForceCheck duration C category a x r .place ≤ length (a .body) / 7
 unfolding inForceCheck bodyCheck
-in-force-place duration C category a none = zero-le
-in-force-place duration C category a (some r) = else-place _ _ (length (a .body) / 7) zero-le (failed-place _ (length (a .body) / 7) 0 (length (a .body) / 7) (omega arith))
+in-force-place duration C category a x none = zero-le
+in-force-place duration C category a x (some r) = else-place _ _ (length (a .body) / 7) zero-le (failed-place _ (length (a .body) / 7) 0 (length (a .body) / 7) (omega arith))
 
 pub reception-fits : (S M R : List ℕ) (a : ReceptionCall) → length (a .body) < 18446744073709551616 → FieldsFit (answer (receptionVerdict S M R a) accepted)
 unfolding receptionVerdict receptionCheck
 reception-fits S M R a h =
-    let low : receptionVerdict S M R a .place ≤ length (a .body) / 7 = else-place _ _ (length (a .body) / 7) zero-le (in-force-place _ _ _ a _) in
+    let low : receptionVerdict S M R a .place ≤ length (a .body) / 7 = else-place _ _ (length (a .body) / 7) zero-le (in-force-place _ _ _ a _ _) in
     answer-fits (receptionVerdict S M R a) accepted (omega arith) (λ e. tt)
 
 pub registration-fits : (S M R : List ℕ) (a : RegistrationCall) → FieldsFit (answer (registrationVerdict S M R a) accepted)

@@ -1,6 +1,6 @@
 -- Which check of a call fails first, families and keys.
 use Prim.Native.Nat.{ℕ, zero, suc, _+_, _*_, _/_, _%_, _≤_, _<_}
-use mathlib.Core.Path.{_≡_, refl, sym, _∙_}
+use mathlib.Core.Path.{_≡_, refl, sym, ap, _∙_}
 use mathlib.Core.Logic.{_≢_, _↔_, _⊎_, inl, inr, ⊎-elim, Iff·rfl, Iff·trans}
 use mathlib.Core.Bool.{Bool, true, false, not, _&&_, _||_, cond, and-eq-true-iff, true≢false}
 use mathlib.Core.List.{List, [], _∷_, _++_}
@@ -16,11 +16,12 @@ use Rattle.metering.specs.Range.{between, metersInRange, categoriesInRange, dat
 use Rattle.metering.specs.Calendar.{durationKnown, periodsPerDay, periodEnding}
 use Rattle.metering.specs.Laws.{between-true, duration-is, duration-pos, periodsPerDay-times, periodEnding-at, periodEnding-is, periodEnding-le}
 use Rattle.ledger.specs.Method.{Category, categoryAt, isSmart, sameFamily, ReadingSet, Picture}
-use Rattle.ledger.specs.Checks.{verdict, firstFailed, anyBelow, recordAt, sameKey, categoryNumber, dayTypeNumber, orElse, sizesValid, openingCheck, callNumber, Registration, RegistrationCall, startOf, notAfterLast, fieldsNumber, knownNumber, meterNumber, registrationCheck, ReceptionCall, endMinute, quality, wattHoursAt, contentNumber, recordNumberIf, recordNumber, headerNumber, bodyCheck, inForceCheck, receptionCheck, runCheck, readCheck, totalsInRange, cellInRange, bandCheck, listsShort}
-use Rattle.ledger.specs.Ledger.{Opening, categories, dates, periods, category, dayType, Meter, Ledger, accepted, answer, Lengths, settingsShort, metersShort, cellsShort, daysShort, anyShort, meterWith, registrationsOf, isHeld, heldFrom, ledgerRegistrationCheck, currentOf, ledgerReceptionCheck, isPicture, isRun, ledgerRunCheck, ledgerTotalsCheck, ledgerCoverageCheck, ledgerCellCheck, ledgerBandCheck, ledgerAnswer}
-use Rattle.ledger.specs.Demands.{GoodRecord, MayReceive, ReceptionExact, Row, row, rowOf, eachBelow, AllHold, FirstFails, MetersLong, CellsLong, DaysLong, AllLong, GoodSizes, ValidCategory, SameKey, GoodCategory, GoodDayType, openingRows, OpeningExact, FirstBad, OpeningPlaces, KeysDiffer, StartsOn, GoodFields, registrationRows, RegistrationExact, recordRows, underRows, bodyRows, headerRows, ReceptionAnswer, ReceptionPlaces, HasPicture, RunExact, TotalsExact, CoverageExact, CellExact, BandAnswer, SameFamily, FamilyExact}
+use Rattle.ledger.specs.Checks.{verdict, firstFailed, anyBelow, recordAt, sameKey, categoryNumber, dayTypeNumber, orElse, sizesValid, openingCheck, callNumber, Registration, RegistrationCall, starts, inForce, appointed, foundIn, notAfterLast, fieldsNumber, knownNumber, meterNumber, registrationCheck, ReceptionCall, endMinute, quality, wattHoursAt, isSenderOf, contentNumber, recordNumberIf, recordNumber, headerNumber, bodyCheck, inForceCheck, receptionCheck, runCheck, readCheck, totalsInRange, cellInRange, bandCheck, listsShort}
+use Rattle.ledger.specs.Ledger.{Opening, categories, dates, periods, category, dayType, Meter, Ledger, accepted, answer, Lengths, settingsShort, metersShort, cellsShort, daysShort, anyShort, meterWith, registrationsOf, isHeld, heldFrom, ledgerRegistrationCheck, ledgerReceptionCheck, isPicture, isRun, ledgerRunCheck, ledgerTotalsCheck, ledgerCoverageCheck, ledgerCellCheck, ledgerBandCheck, ledgerAnswer}
+use Rattle.ledger.specs.Demands.{dateOf, minuteOf, GoodRecord, MayReceive, ReceptionExact, Row, row, rowOf, eachBelow, AllHold, FirstFails, MetersLong, CellsLong, DaysLong, AllLong, GoodSizes, ValidCategory, SameKey, GoodCategory, GoodDayType, openingRows, OpeningExact, FirstBad, OpeningPlaces, KeysDiffer, StartsOn, GoodFields, registrationRows, RegistrationExact, recordRows, underRows, bodyRows, headerRows, ReceptionAnswer, ReceptionPlaces, HasPicture, RunExact, TotalsExact, CoverageExact, CellExact, BandAnswer, SameFamily, FamilyExact}
 use Rattle.ledger.proofs.Choices.{neither}
 use Rattle.ledger.proofs.Lists.{below-suc}
+use Rattle.ledger.proofs.RegistrationDemands.{starts-on, starts-is, starts-there, in-force-exact, appointed-exact}
 use Rattle.ledger.proofs.FirstFailed.{Finds, Decides, AtPlace, all-append, first-left, first-right, all-left, of-each, each-all, first-append, first-each, each-first, at-place, only, first-bad, finds-none, finds-skip, finds-row, decides-row, finds-both, decides-else, decides-each, passed-all, goes-by}
 
 -- ---- tests
@@ -324,10 +325,6 @@ keys-differ o short ok i k hi hk other same =
 
 -- ---- registration
 
-starts-on : (a : RegistrationCall) (start : ℕ) → StartsOn a start → startOf (a .date) (a .minute) ≡ start
-unfolding startOf
-starts-on a start s = ⊎-elim (λ h. rw (eq-eqb (a .minute) 0 (h .0), h .1)) (λ h. rw (ne-eqb (a .minute) 0 (h .0), h .1)) s
-
 fields-iff : (o : Opening) (a : RegistrationCall) (start : ℕ) →
     ((leb (a .minute) 1439 && ltb (a .category) (categories o) && between 1 3 (a .status) && ltb start (dates o)) ≡ true) ↔ GoodFields o a start
 fields-iff o a start = (
@@ -348,18 +345,18 @@ last-of : {A : Type 0} (xs : List A) → (xs ≡ []) ⊎ ((before : List A) × (
 last-of [] = inl refl
 last-of (x ∷ xs) = ⊎-elim (λ e. inr ([], x, rw e)) (λ h. inr (x ∷ h .0, h .1, rw (h .2))) (last-of xs)
 
-after-last : (start : ℕ) (answer : Bool) (rs : List Registration) (r : Registration) → notAfterLast start answer (rs ++ (r ∷ [])) ≡ leb start (r .start)
+after-last : (start : ℕ) (answer : Bool) (rs : List Registration) (r : Registration) → notAfterLast start answer (rs ++ (r ∷ [])) ≡ leb start (starts r)
 unfolding notAfterLast
 after-last start answer [] r = refl
-after-last start answer (x ∷ rs) r = after-last start (leb start (x .start)) rs r
+after-last start answer (x ∷ rs) r = after-last start (leb start (starts x)) rs r
 
 last-iff : (start : ℕ) (registrations : List Registration) →
-    (notAfterLast start false registrations ≡ false) ↔ ((rs : List Registration) (r : Registration) → registrations ≡ rs ++ (r ∷ []) → r .start < start)
+    (notAfterLast start false registrations ≡ false) ↔ ((rs : List Registration) (r : Registration) → registrations ≡ rs ++ (r ∷ []) → (last : ℕ) → StartsOn (dateOf r) (minuteOf r) last → last < start)
 last-iff start registrations = (
-  λ e rs r is. leb-false start (r .start) (sym (after-last start false rs r) ∙ rw is at e),
+  λ e rs r is last on. rw (← starts-is r last on) (leb-false start (starts r) (sym (after-last start false rs r) ∙ rw is at e)),
   λ h. ⊎-elim
       (λ e. rw e (unfold notAfterLast in refl))
-      (λ p. rw (p .2) (after-last start false (p .0) (p .1) ∙ lt-leb start (p .1 .start) (h (p .0) (p .1) (p .2))))
+      (λ p. rw (p .2) (after-last start false (p .0) (p .1) ∙ lt-leb start (starts (p .1)) (h (p .0) (p .1) (p .2) (starts (p .1)) (starts-there (p .1)))))
       (last-of registrations),
 )
 
@@ -379,7 +376,7 @@ from-iff T start m = (
 meter-finds : (l : Ledger) (start : ℕ) (x : Option Meter) →
     Finds (meterNumber (leb (l .opening .meters) (length (l .known))) start (heldFrom (dates (l .opening)) start x) (registrationsOf x)) 0
     (row 8 (x ≡ none → length (l .known) < l .opening .meters)
-    ∷ row 10 ((m : Meter) → x ≡ some m → (rs : List Registration) (r : Registration) → m .registrations ≡ rs ++ (r ∷ []) → r .start < start)
+    ∷ row 10 ((m : Meter) → x ≡ some m → (rs : List Registration) (r : Registration) → m .registrations ≡ rs ++ (r ∷ []) → (last : ℕ) → StartsOn (dateOf r) (minuteOf r) last → last < start)
     ∷ row 11 ((m : Meter) → x ≡ some m → (d : ℕ) → start ≤ d → d < dates (l .opening) → m .held d ≡ none)
     ∷ row 12 ((m : Meter) → x ≡ some m → length (m .registrations) < 8)
     ∷ [])
@@ -404,7 +401,7 @@ pub registration-exact : RegistrationExact
 unfolding ledgerAnswer ledgerRegistrationCheck registrationCheck callNumber fieldsNumber
 registration-exact l n a start s =
     goes-by (ledgerRegistrationCheck l n a) {rows = registrationRows l n a start (meterWith (a .mpan) (l .known))} accepted refl
-    (rw (starts-on a start s)
+    (rw (starts-on (a .date) (a .minute) start s)
     (finds-both
     (finds-row refl (meters-iff (l .opening) n)
     (finds-row refl (date-iff (dates (l .opening)) (a .date))
@@ -452,6 +449,15 @@ zero-iff q wh = (
   λ h. cases (between 10 13 q) (λ t. let b = between-true 10 13 q .0 t in rw (t, eq-eqb wh 0 (h (b .0) (b .1)))) (λ t. rw t),
 )
 
+-- 1001
+sender-iff : (sender : ℕ) (appointment : Option Registration) →
+    (isSenderOf sender appointment ≡ true) ↔ ((s : Registration) × (appointment ≡ some s) × (sender ≡ s .sender))
+sender-iff sender none = (λ e. absurd (true≢false (sym e)), λ h. absurd (Option·none-ne-some (h .0) (h .1)))
+sender-iff sender (some s) = (
+  λ e. (s, refl, eqb-true sender (s .sender) e),
+  λ h. eq-eqb sender (s .sender) (h .2 ∙ sym (ap (λ x. x .sender) (Option·some-injective s (h .0) (h .1)))),
+)
+
 module _ (o : Opening) (known : durationKnown (o .duration) ≡ true) (a : ReceptionCall) where
   record-finds : (r : Registration) (k : ℕ) → Finds (recordNumber (o .duration) (r .status) (r .limit) (a .body) k) (suc k) (recordRows o r (a .body) k)
   unfolding recordNumber recordNumberIf contentNumber
@@ -465,16 +471,16 @@ module _ (o : Opening) (known : durationKnown (o .duration) ≡ true) (a : Recep
       (finds-row refl (ltb-false (r .limit) (wattHoursAt (a .body) k), le-ltb (r .limit) (wattHoursAt (a .body) k))
       finds-none))))))
 
-  force-decides : (x : Option Registration) →
-      Decides (inForceCheck (o .duration) (categories o) (category o) a x) (row 7 ((r : Registration) × (x ≡ some r)) ∷ (underRows o a x ++ bodyRows o a x))
+  force-decides : (appointment x : Option Registration) →
+      Decides (inForceCheck (o .duration) (categories o) (category o) a appointment x) (row 7 ((r : Registration) × (x ≡ some r)) ∷ (underRows o a appointment x ++ bodyRows o a x))
   unfolding inForceCheck bodyCheck headerNumber
-  force-decides none = finds-row {t = true} refl (λ e. absurd (true≢false e), λ h. absurd (Option·none-ne-some (h .0) (h .1))) finds-none
-  force-decides (some r) =
+  force-decides appointment none = finds-row {t = true} refl (λ e. absurd (true≢false e), λ h. absurd (Option·none-ne-some (h .0) (h .1))) finds-none
+  force-decides appointment (some r) =
       let records = recordNumber (o .duration) (r .status) (r .limit) (a .body) in
       finds-skip (r, refl)
-      (decides-else (verdict (headerNumber (o .duration) (categories o) (category o) a r)) (firstFailed records (length (a .body) / 7) 0)
+      (decides-else (verdict (headerNumber (o .duration) (categories o) (category o) a appointment r)) (firstFailed records (length (a .body) / 7) 0)
       (finds-row refl (date-iff (categories o) (r .category))
-      (finds-row refl (not-iff _ (eq-iff (a .sender) (r .sender)))
+      (finds-row refl (not-iff _ (sender-iff (a .sender) appointment))
       (finds-row refl (not-iff _ (eq-iff (a .quantity) (category o (r .category) .quantity)))
       (finds-row refl (not-iff _ (eq-iff (a .duration) (o .duration)))
       (finds-row refl (not-iff _ (whole-iff (length (a .body))))
@@ -484,15 +490,17 @@ module _ (o : Opening) (known : durationKnown (o .duration) ≡ true) (a : Recep
 pub reception-answer : ReceptionAnswer
 unfolding ledgerAnswer ledgerReceptionCheck receptionCheck callNumber
 reception-answer l n a known =
-    let current = currentOf (a .date) (meterWith (a .mpan) (l .known)) in
+    let meter = registrationsOf (meterWith (a .mpan) (l .known)) in
+    let appointment = foundIn (appointed (a .date)) meter in
+    let current = foundIn (inForce (a .date)) meter in
     goes-by (ledgerReceptionCheck l n a) accepted refl
     (decides-else (verdict (callNumber (metersShort (l .opening) n) (dates (l .opening)) (a .mpan) (a .date)))
-    (inForceCheck (l .opening .duration) (categories (l .opening)) (category (l .opening)) a current)
+    (inForceCheck (l .opening .duration) (categories (l .opening)) (category (l .opening)) a appointment current)
     (finds-row refl (meters-iff (l .opening) n)
     (finds-row refl (date-iff (dates (l .opening)) (a .date))
     (finds-row refl (not-iff _ Iff·rfl)
     finds-none)))
-    (force-decides (l .opening) known a current))
+    (force-decides (l .opening) known a appointment current))
 
 -- ---- reception, exactly
 
@@ -514,19 +522,24 @@ module _ (l : Ledger) (n : Lengths) (a : ReceptionCall) where
   abbrev count : ℕ
   count = length (a .body) / 7
 
-  may-receive : (x : Option Registration) → currentOf (a .date) (meterWith (a .mpan) (l .known)) ≡ x →
-      AllHold (headerRows l n a x ++ bodyRows (l .opening) a x) → MayReceive l n a
-  may-receive none is all = let seven = all .1 .1 .1 .0 in absurd (Option·none-ne-some (seven .0) (seven .1))
-  may-receive (some r) is all =
+  may-receive : (m : Option Meter) → meterWith (a .mpan) (l .known) ≡ m → (x : Option Registration) → foundIn (inForce (a .date)) (registrationsOf m) ≡ x →
+      AllHold (headerRows l n a (foundIn (appointed (a .date)) (registrationsOf m)) x ++ bodyRows (l .opening) a x) → MayReceive l n a
+  may-receive none is x found all = let seven = all .1 .1 .1 .0 in absurd (Option·none-ne-some (seven .0) (found ∙ seven .1))
+  may-receive (some m) is none found all = let seven = all .1 .1 .1 .0 in absurd (Option·none-ne-some (seven .0) (seven .1))
+  may-receive (some m) is (some r) found all =
       let under = all .1 .1 .1 .1 in
       record {
         long-enough = meters-iff (l .opening) n .1 (all .0);
         a-date = all .1 .0;
         a-number = all .1 .1 .0;
+        meter = m;
+        known = is;
         registration = r;
-        in-force = is;
+        in-force = in-force-exact (a .date) (m .registrations) r .0 found;
         a-category = under .0;
-        same-sender = under .1 .0;
+        appointment = under .1 .0 .0;
+        at-midday = appointed-exact (a .date) (m .registrations) (under .1 .0 .0) .0 (under .1 .0 .1);
+        same-sender = under .1 .0 .2;
         same-quantity = under .1 .1 .0;
         same-duration = under .1 .1 .1 .0;
         whole-records = eqb-true _ _ (whole-iff (length (a .body)) .1 (under .1 .1 .1 .1 .0));
@@ -535,20 +548,24 @@ module _ (l : Ledger) (n : Lengths) (a : ReceptionCall) where
       }
 
   rows-hold : MayReceive l n a →
-      AllHold (headerRows l n a (currentOf (a .date) (meterWith (a .mpan) (l .known))) ++ bodyRows (l .opening) a (currentOf (a .date) (meterWith (a .mpan) (l .known))))
+      let meter = registrationsOf (meterWith (a .mpan) (l .known)) in
+      let current = foundIn (inForce (a .date)) meter in
+      AllHold (headerRows l n a (foundIn (appointed (a .date)) meter) current ++ bodyRows (l .opening) a current)
   rows-hold m =
       let r = m .registration in
+      let rs = m .meter .registrations in
+      let midday = appointed-exact (a .date) rs (m .appointment) .1 (m .at-midday) in
       let whole = whole-iff (length (a .body)) .0 (eq-eqb _ _ (m .whole-records)) in
-      let under : AllHold (underRows (l .opening) a (some r)) = (m .a-category, (m .same-sender, (m .same-quantity, (m .same-duration, (whole, tt))))) in
-      let header : AllHold (headerRows l n a (some r)) = (meters-iff (l .opening) n .0 (m .long-enough), (m .a-date, (m .a-number, ((r, refl), under)))) in
-      rw (m .in-force)
-      (all-append (headerRows l n a (some r)) (bodyRows (l .opening) a (some r)) header
+      let under : AllHold (underRows (l .opening) a (appointed (a .date) rs) (some r)) = (m .a-category, ((m .appointment, midday, m .same-sender), (m .same-quantity, (m .same-duration, (whole, tt))))) in
+      let header : AllHold (headerRows l n a (appointed (a .date) rs) (some r)) = (meters-iff (l .opening) n .0 (m .long-enough), (m .a-date, (m .a-number, ((r, refl), under)))) in
+      rw (m .known, in-force-exact (a .date) rs r .1 (m .in-force))
+      (all-append (headerRows l n a (appointed (a .date) rs) (some r)) (bodyRows (l .opening) a (some r)) header
       (each-all count (recordRows (l .opening) r (a .body)) (λ k h. good-iff (l .opening) r (a .body) k .1 (m .good-records k h))))
 
 pub reception-exact : ReceptionExact
 reception-exact l n a known =
     let goes = reception-answer l n a known .0 in
-    (λ e. may-receive l n a (currentOf (a .date) (meterWith (a .mpan) (l .known))) refl (goes .0 e), λ m. goes .1 (rows-hold l n a m))
+    (λ e. may-receive l n a (meterWith (a .mpan) (l .known)) refl _ refl (goes .0 e), λ m. goes .1 (rows-hold l n a m))
 
 -- the first bad record of a body
 first-record-is : (o : Opening) (r : Registration) (body : List ℕ) (count number k : ℕ) →
@@ -567,17 +584,18 @@ first-record-is o r body count number k = (
 
 pub reception-places : ReceptionPlaces
 reception-places l n a r known is number k =
+    let header = headerRows l n a (foundIn (appointed (a .date)) (registrationsOf (meterWith (a .mpan) (l .known)))) (some r) in
     let goes = rw is at (reception-answer l n a known .1 number (suc k)) in
     let first = first-record-is (l .opening) r (a .body) (length (a .body) / 7) number k in (
       λ e.
           ⊎-elim
-          (λ header. absurd (let z = at-place 0 (headerRows l n a (some r)) number (suc k) without header in omega arith))
+          (λ early. absurd (let z = at-place 0 header number (suc k) without early in omega arith))
           (λ body. let bad = first .0 (body .1) in (body .0, bad .0, bad .1, bad .2))
-          (first-append (headerRows l n a (some r)) (bodyRows (l .opening) a (some r)) number (suc k) (goes .0 e)),
-      λ h. goes .1 (first-right (headerRows l n a (some r)) (bodyRows (l .opening) a (some r)) number (suc k) (h .0) (first .1 (h .1, h .2, h .3))),
+          (first-append header (bodyRows (l .opening) a (some r)) number (suc k) (goes .0 e)),
+      λ h. goes .1 (first-right header (bodyRows (l .opening) a (some r)) number (suc k) (h .0) (first .1 (h .1, h .2, h .3))),
     )
   where
-    without : AtPlace 0 (headerRows l n a (some r))
+    without : AtPlace 0 (headerRows l n a (foundIn (appointed (a .date)) (registrationsOf (meterWith (a .mpan) (l .known)))) (some r))
     without = (refl, (refl, (refl, (refl, (refl, (refl, (refl, (refl, (refl, tt)))))))))
 
 -- ---- run and reads

@@ -1,18 +1,20 @@
 -- What a passed check tells: the tests in front of a 0 did not hold, found one after the other.
-use Prim.Native.Nat.{ℕ, suc, _%_, _<_}
+use Prim.Native.Nat.{ℕ, suc, _%_, _≤_, _<_}
 use mathlib.Core.Path.{_≡_, refl}
-use mathlib.Core.Bool.{Bool, true, false, not, _||_, cond, true≢false}
+use mathlib.Core.Bool.{Bool, true, false, not, _&&_, _||_, cond, and-eq-true-iff, true≢false}
 use mathlib.Core.List.{List}
+use mathlib.Core.Option.{Option}
 use native.Mathlib.Omega.{arith}
-use lib.Dec.{eqb, leb}
+use lib.Dec.{eqb, leb, ltb}
 use lib.ListN.{length}
 use borrow.Table.Steps.{cases}
-use borrow.Author.Tests.{eqb-true, eqb-false, leb-false, not-false}
+use borrow.Author.Tests.{eqb-true, eqb-false, leb-true, leb-false, ltb-true, not-false}
 use Rattle.metering.specs.Mpan.{mpanValid}
 use Rattle.metering.specs.Range.{between}
+use Rattle.metering.specs.Laws.{between-true}
 use Rattle.metering.specs.Calendar.{periodEnding}
 use Rattle.ledger.specs.Method.{Category}
-use Rattle.ledger.specs.Checks.{Verdict, verdict, firstNumber, Registration, ReceptionCall, callNumber, notAfterLast, knownNumber, endMinute, quality, wattHoursAt, contentNumber, recordNumberIf, headerNumber}
+use Rattle.ledger.specs.Checks.{Verdict, verdict, firstNumber, Registration, ReceptionCall, callNumber, fieldsNumber, notAfterLast, knownNumber, endMinute, quality, wattHoursAt, contentNumber, recordNumberIf, isSenderOf, headerNumber}
 
 pub neither : (a b : Bool) → (a || b) ≡ false → (a ≡ false) × (b ≡ false)
 neither true b e = absurd (true≢false e)
@@ -47,6 +49,21 @@ call-passed short dates mpan date e =
     let p6 = check-passed (not (mpanValid mpan)) 5 0 (p9 .1) in
     record { long = p1 .0; dated = leb-false dates date (p9 .0); valid = not-false (mpanValid mpan) (p6 .0) }
 
+pub record FieldsPassed (dates categories start minute category status : ℕ) : Type 0 where
+  pub minute-is : minute ≤ 1439
+  pub category-is : category < categories
+  pub status-is : (1 ≤ status) × (status ≤ 3)
+
+pub fields-passed : (dates categories start minute category status : ℕ) → fieldsNumber dates categories start minute category status ≡ 0 →
+    FieldsPassed dates categories start minute category status
+unfolding fieldsNumber
+fields-passed dates categories start minute category status e =
+    let all = not-false _ (check-passed (not (leb minute 1439 && ltb category categories && between 1 3 status && ltb start dates)) 15 0 e .0) in
+    let fields = and-eq-true-iff (leb minute 1439 && ltb category categories && between 1 3 status) (ltb start dates) .0 all .0 in
+    let two = and-eq-true-iff (leb minute 1439 && ltb category categories) (between 1 3 status) .0 fields in
+    let each = and-eq-true-iff (leb minute 1439) (ltb category categories) .0 (two .0) in
+    record { minute-is = leb-true minute 1439 (each .0); category-is = ltb-true category categories (each .1); status-is = between-true 1 3 status .0 (two .1) }
+
 -- a known meter has room for one more registration
 pub known-passed : (start : ℕ) (heldFrom : Bool) (registrations : List Registration) → knownNumber start heldFrom registrations ≡ 0 → length registrations < 8
 unfolding knownNumber
@@ -55,25 +72,25 @@ known-passed start heldFrom registrations e =
     let p11 = check-passed heldFrom 10 _ (p10 .1) in
     leb-false 8 (length registrations) (check-passed (leb 8 (length registrations)) 11 0 (p11 .1) .0)
 
-pub record HeaderPassed (duration categories : ℕ) (category : ℕ → Category) (a : ReceptionCall) (r : Registration) : Type 0 where
+pub record HeaderPassed (duration categories : ℕ) (category : ℕ → Category) (a : ReceptionCall) (appointment : Option Registration) (r : Registration) : Type 0 where
   pub category-is : r .category < categories
-  pub sender-is : a .sender ≡ r .sender
+  pub sender-is : isSenderOf (a .sender) appointment ≡ true
   pub quantity-is : a .quantity ≡ category (r .category) .quantity
   pub duration-is : a .duration ≡ duration
   pub whole : length (a .body) % 7 ≡ 0
 
-pub header-passed : (duration categories : ℕ) (category : ℕ → Category) (a : ReceptionCall) (r : Registration) →
-    headerNumber duration categories category a r ≡ 0 → HeaderPassed duration categories category a r
+pub header-passed : (duration categories : ℕ) (category : ℕ → Category) (a : ReceptionCall) (appointment : Option Registration) (r : Registration) →
+    headerNumber duration categories category a appointment r ≡ 0 → HeaderPassed duration categories category a appointment r
 unfolding headerNumber
-header-passed duration categories category a r e =
+header-passed duration categories category a appointment r e =
     let p2 = check-passed (leb categories (r .category)) 1 _ e in
-    let p1001 = check-passed (not (eqb (a .sender) (r .sender))) 1000 _ (p2 .1) in
+    let p1001 = check-passed (not (isSenderOf (a .sender) appointment)) 1000 _ (p2 .1) in
     let p1002 = check-passed (not (eqb (a .quantity) (category (r .category) .quantity))) 1001 _ (p1001 .1) in
     let p1004 = check-passed (not (eqb (a .duration) duration)) 1003 _ (p1002 .1) in
     let p13 = check-passed (not (eqb (length (a .body) % 7) 0)) 12 0 (p1004 .1) in
     record {
       category-is = leb-false categories (r .category) (p2 .0);
-      sender-is = eqb-true (a .sender) (r .sender) (not-false _ (p1001 .0));
+      sender-is = not-false (isSenderOf (a .sender) appointment) (p1001 .0);
       quantity-is = eqb-true (a .quantity) (category (r .category) .quantity) (not-false _ (p1002 .0));
       duration-is = eqb-true (a .duration) duration (not-false _ (p1004 .0));
       whole = eqb-true (length (a .body) % 7) 0 (not-false _ (p13 .0));

@@ -16,7 +16,7 @@ pub every-append : {I : Type 0} (P : I → Type 0) (cs ds : List I) → Every P 
 every-append P [] ds a b = b
 every-append P (c ∷ cs) ds a b = (a .0, every-append P cs ds (a .1) b)
 
-pub every-more : (P Q : ℕ → Type 0) (cs : List ℕ) → Every P cs → ((c : ℕ) → P c → Q c) → Every Q cs
+pub every-more : {I : Type 0} (P Q : I → Type 0) (cs : List I) → Every P cs → ((c : I) → P c → Q c) → Every Q cs
 every-more P Q [] a h = tt
 every-more P Q (c ∷ cs) a h = (h c (a .0), every-more P Q cs (a .1) h)
 

@@ -11,6 +11,7 @@ pub mod Kept
 pub mod Rows
 pub mod Relation
 pub mod Tallies
+mod Latest
 pub mod Runs
 pub mod Slots
 pub mod Registrations
@@ -27,6 +28,7 @@ pub mod Bytes
 pub mod Agreement
 pub mod Demands
 pub mod FirstFailed
+pub mod RegistrationDemands
 pub mod CallDemands
 pub mod NetDemands
 pub mod BandDemands

@@ -2,7 +2,7 @@
 use Prim.Native.Nat.{ℕ, zero, suc, _+_, _≤_, _<_}
 use mathlib.Core.Path.{_≡_, refl, sym, ap, _∙_}
 use mathlib.Core.Logic.{_≢_}
-use mathlib.Core.Bool.{Bool, true, false, not, _&&_, cond, and-eq-true-iff}
+use mathlib.Core.Bool.{Bool, true, false, _&&_, cond}
 use mathlib.Core.List.{List, [], _∷_, _++_}
 use mathlib.Core.Option.{Option, none, some}
 use native.Mathlib.Omega.{arith}
@@ -11,15 +11,14 @@ use native.Mathlib.Numerals.{add-one}
 use lib.Dec.{eqb, leb, ltb}
 use lib.ListN.{length, length-append}
 use borrow.Table.Steps.{cases}
-use borrow.Author.Tests.{eq-eqb, ne-eqb, eqb-true, leb-false, lt-ltb, ltb-true, not-false}
+use borrow.Author.Tests.{eq-eqb, ne-eqb, eqb-true, leb-false, lt-ltb, ltb-true}
 use Rattle.metering.specs.Mpan.{mpanValid}
-use Rattle.metering.specs.Range.{between}
-use Rattle.metering.specs.Laws.{mpanValid-bounds, between-true}
-use Rattle.ledger.specs.Checks.{Registration, RegistrationCall, firstNumber, callNumber, registered, startOf, anyBelow, fieldsNumber, meterNumber, registrationCheck}
+use Rattle.metering.specs.Laws.{mpanValid-bounds}
+use Rattle.ledger.specs.Checks.{Registration, RegistrationCall, firstNumber, callNumber, registered, startOf, anyBelow, meterNumber, registrationCheck}
 use Rattle.ledger.specs.Ledger.{Opening, categories, dates, Meter, Ledger, meterWith, changed, registrationsOf, heldFrom, withRegistration, registerIn}
 use Rattle.ledger.specs.Store.{usedFrom, metersOf, datesOf, categoriesOf, periodsOf, mpanAt, slotOf, registrationAt, registrationsAt, knownAt, putRegistration}
 use Rattle.ledger.specs.Calls.{usedOf, slotFor, registrationsFor, heldFromAt, registeredMeters}
-use Rattle.ledger.proofs.Choices.{check-passed, both-passed, call-passed, known-passed}
+use Rattle.ledger.proofs.Choices.{check-passed, both-passed, call-passed, fields-passed, known-passed}
 use Rattle.ledger.proofs.Relation.{SoundRegistrations, SoundMeter, SoundMeters, SettingsAgree, MeterAt, FreeAt, MetersAgree, HeldAt, NotHeldAt, ReadingsAgree, Sound}
 use Rattle.ledger.proofs.Slots.{positionOf, position-new, at-position, free-past, slots-changed, slots-added, slot-is}
 use Rattle.ledger.proofs.Registrations.{SlotSame, meter-stands, free-stands, length-put, put-mpan, put-registration, put-others, put-slots, used-more}
@@ -117,19 +116,15 @@ pub registration-accepted : (o : Opening) (known : List Meter) (short : Bool) (a
     (heldFrom (dates o) (startOf (a .date) (a .minute)) (meterWith (a .mpan) known))
     (registrationsOf (meterWith (a .mpan) known)) a ≡ 0 →
     RegistrationAccepted o known a
-unfolding registrationCheck fieldsNumber
+unfolding registrationCheck
 registration-accepted o known short a e =
     let p = both-passed _ _ e in
     let f = both-passed _ _ (p .1) in
-    let p16 = check-passed (not (leb (a .minute) 1439 && ltb (a .category) (categories o) && between 1 3 (a .status) && ltb (startOf (a .date) (a .minute)) (dates o))) 15 0 (f .0) in
-    let all = not-false _ (p16 .0) in
-    let q = and-eq-true-iff (leb (a .minute) 1439 && ltb (a .category) (categories o) && between 1 3 (a .status)) (ltb (startOf (a .date) (a .minute)) (dates o)) .0 all .0 in
-    let w = and-eq-true-iff (leb (a .minute) 1439 && ltb (a .category) (categories o)) (between 1 3 (a .status)) .0 q in
-    let v = and-eq-true-iff (leb (a .minute) 1439) (ltb (a .category) (categories o)) .0 (w .0) in
+    let fields = fields-passed _ _ _ _ _ _ (f .0) in
     record {
       valid = call-passed _ _ _ _ (p .0) .valid;
-      category-is = ltb-true (a .category) (categories o) (v .1);
-      status-is = λ (z : a .status ≡ 0). let b = between-true 1 3 (a .status) .0 (w .1) in omega arith;
+      category-is = fields .category-is;
+      status-is = λ (z : a .status ≡ 0). let b = fields .status-is in omega arith;
       meter-ok = f .1;
     }
 

@@ -71,7 +71,7 @@ five-same M m m′ x k same =
     let zeroth : getD m′ (registrationIndex M x k) 0 ≡ getD m (registrationIndex M x k) 0 = rw (add-zero (registrationIndex M x k)) at (same 0 (omega arith)) in
     λ i.
     record {
-      start = zeroth i;
+      moment = zeroth i;
       category = same 1 (omega arith) i;
       sender = same 2 (omega arith) i;
       status = same 3 (omega arith) i;
@@ -87,7 +87,7 @@ slots-alike M m m′ same x h =
 -- ---- a registration put into a slot
 
 abbrev fields : Registration → List ℕ
-fields r = r .start ∷ r .category ∷ r .sender ∷ r .status ∷ r .limit ∷ []
+fields r = r .moment ∷ r .category ∷ r .sender ∷ r .status ∷ r .limit ∷ []
 
 module _ (M mpan slot k : ℕ) (r : Registration) (m : List ℕ) (hs : slot < M) (hk : k < 8) (long : metersLength M ≤ length m) where
   pub length-put : length (putRegistration M mpan slot k r m) ≡ length m
@@ -116,7 +116,7 @@ module _ (M mpan slot k : ℕ) (r : Registration) (m : List ℕ) (hs : slot < M)
       let room : at + 5 ≤ length l = rw length-set (omega arith) in
       λ i.
       record {
-        start = (ap (λ x. getD (sets l at vs) x 0) (sym (add-zero at)) ∙ getD-sets-at vs l at 0 (omega arith) room) i;
+        moment = (ap (λ x. getD (sets l at vs) x 0) (sym (add-zero at)) ∙ getD-sets-at vs l at 0 (omega arith) room) i;
         category = getD-sets-at vs l at 1 (omega arith) room i;
         sender = getD-sets-at vs l at 2 (omega arith) room i;
         status = getD-sets-at vs l at 3 (omega arith) room i;

@@ -2,23 +2,24 @@
 use Prim.Native.Nat.{ℕ, suc, _+_, _*_, _/_, _%_, _≤_, _<_, zero-le}
 use mathlib.Core.Path.{_≡_, refl, sym, ap, _∙_, fun-ext}
 use mathlib.Core.Logic.{_≢_, ⊎-elim}
-use mathlib.Core.Bool.{Bool, true, false, _&&_, cond, and-eq-true-iff}
+use mathlib.Core.Bool.{Bool, true, _&&_, cond, and-eq-true-iff}
 use mathlib.Core.List.{List, [], _∷_, _++_}
 use mathlib.Core.Option.{Option, none, some}
 use native.Mathlib.Omega.{arith}
 use native.Mathlib.Nat.{mod-lt, div-lt-iff-lt-mul, mul-le-mul-right}
 use lib.Arith.{digits-div, digits-mod}
-use lib.Dec.{eqb, leb}
+use lib.Dec.{eqb}
 use lib.ListN.{length, length-append}
 use borrow.Table.Steps.{cases}
 use borrow.Author.Tests.{eq-eqb, ne-eqb}
 use Rattle.metering.specs.Calendar.{periodsPerDay}
 use Rattle.ledger.specs.Method.{Category, isSmart, sameFamily, ReadingSet, Picture, wattHours, present, total, isEnough, freshOf, freshIn, cellOn}
-use Rattle.ledger.specs.Checks.{Registration, later, inForceAfter, inForce}
+use Rattle.ledger.specs.Checks.{Registration, later, latestFrom, inForce}
 use Rattle.ledger.specs.Sizes.{cellsLength}
 use Rattle.ledger.specs.Ledger.{Opening, categories, dates, periods, category, dayType, Meter, Ledger, at, dayOf, cellBy, isPicture, heldSetsOf, pictureOf, movedBetween}
 use Rattle.ledger.specs.Store.{periodsOf, rowLength, categoryOf, cellOfEntry, isRunAt}
 use Rattle.ledger.specs.Calls.{familyTally, freshAt, entriesFor, rowEntry, rowAt, lastRun, inheritedFrom, newRow, ranFrom, asPublished}
+use Rattle.ledger.proofs.Latest.{taken-or-left}
 use Rattle.ledger.proofs.Days.{days-cong}
 use Rattle.ledger.proofs.Kept.{entries-cong, dayAt, KeptIn, ran-keeps}
 use Rattle.ledger.proofs.Lists.{sumBelow-cong, sumBelow-rows, block-below}
@@ -58,25 +59,29 @@ abbrev Named : ℕ → Option Registration → Type 0
 Named C none = Unit {0}
 Named C (some r) = r .category < C
 
-later-named : (C date : ℕ) (best : Option Registration) (r : Registration) → Named C best → r .category < C → Named C (later date best r)
-unfolding later
-later-named C date none r b h = (elim (leb (r .start) date) as (λ q. Named C (cond q (some r) none)) [ true ↦ h | false ↦ tt ])
-later-named C date (some x) r b h = (elim (leb (r .start) date && leb (x .start) (r .start)) as (λ q. Named C (cond q (some r) (some x))) [ true ↦ h | false ↦ b ])
+later-named : (C : ℕ) (key : Registration → ℕ) (bound : ℕ) (best : Option Registration) (r : Registration) → Named C best → r .category < C →
+    Named C (later key bound best r)
+later-named C key bound best r b h = ⊎-elim (λ t. rw (t .0) h) (λ t. rw (t .0) b) (taken-or-left key bound best r)
 
-force-named : (C date : ℕ) (best : Option Registration) (rs : List Registration) → Named C best → SoundRegistrations C rs → Named C (inForceAfter date best rs)
-unfolding inForceAfter
-force-named C date best [] b s = b
-force-named C date best (r ∷ rs) b s = force-named C date (later date best r) rs (later-named C date best r b (s .0)) (s .2)
+latest-named : (C : ℕ) (key : Registration → ℕ) (bound : ℕ) (best : Option Registration) (rs : List Registration) → Named C best → SoundRegistrations C rs →
+    Named C (latestFrom key bound best rs)
+unfolding latestFrom
+latest-named C key bound best [] b s = b
+latest-named C key bound best (r ∷ rs) b s = latest-named C key bound (later key bound best r) rs (later-named C key bound best r b (s .0)) (s .2)
+
+force-named : (C date : ℕ) (rs : List Registration) → SoundRegistrations C rs → Named C (inForce date rs)
+unfolding inForce
+force-named C date rs s = latest-named C _ _ none rs tt s
 
 sound-append : (C : ℕ) (a b : Picture) → SoundPicture C a → SoundPicture C b → SoundPicture C (a ++ b)
 sound-append C [] b s t = t
 sound-append C (e ∷ es) b s t = (s .0, s .1, sound-append C es b (s .2) t)
 
 picture-sound : (C date : ℕ) (ms : List Meter) → SoundMeters C ms → SoundPicture C (pictureOf date ms)
-unfolding pictureOf inForce
+unfolding pictureOf
 picture-sound C date [] s = tt
 picture-sound C date (m ∷ ms) s =
-    sound-append C (heldSetsOf (m .held date) (inForceAfter date none (m .registrations))) (pictureOf date ms) (entry (m .held date) refl (inForceAfter date none (m .registrations)) (force-named C date none (m .registrations) tt (s .0 .registered))) (picture-sound C date ms (s .1))
+    sound-append C (heldSetsOf (m .held date) (inForce date (m .registrations))) (pictureOf date ms) (entry (m .held date) refl (inForce date (m .registrations)) (force-named C date (m .registrations) (s .0 .registered))) (picture-sound C date ms (s .1))
   where
     entry : (x : Option ReadingSet) → m .held date ≡ x → (r : Option Registration) → Named C r → SoundPicture C (heldSetsOf x r)
     entry none e r n = tt

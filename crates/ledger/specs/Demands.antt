@@ -16,11 +16,67 @@ use Rattle.ledger.specs.Table.{tabulate, chosenBelow}
 use Rattle.ledger.specs.Net.{activeImport, activeExport, onSide, sumOver, anyOf, netOn}
 use Rattle.ledger.specs.Band.{BandCall}
 use Rattle.ledger.specs.Fill.{ShapeOf, ofCategory, ofOptedOut, FillCall, weightBy, mayFill, remainderOf, leftOver, filledValues}
-use Rattle.ledger.specs.Checks.{Registration, RegistrationCall, ReceptionCall, endMinute, quality, wattHoursAt, openingCheck, NetCall, mayNet}
+use Rattle.ledger.specs.Checks.{Registration, RegistrationCall, registered, inForce, appointed, foundIn, ReceptionCall, endMinute, quality, wattHoursAt, openingCheck, NetCall, mayNet}
 use Rattle.ledger.specs.Sizes.{settingsLength, metersLength, readingsLength, cellsLength, daysLength}
-use Rattle.ledger.specs.Ledger.{Opening, categories, dates, periods, category, dayType, Meter, Ledger, register, start, receive, run, readTotals, readCell, readNet, searchBand, fillHole, readCoverage, Answer, refused, accepted, moved, totalsAre, cellIs, netIs, bandIs, filledAre, coverageIs, answer, Lengths, leastLengths, metersShort, cellsShort, anyShort, meterWith, currentOf, cellAt, dayOf, isRun, pictureOf, afterRun, movedBetween, totalsAt, sideAt, netAt, bandAt, shapeAt, fillAt, coverageAt, ledgerAnswer, ledgerAfter}
+use Rattle.ledger.specs.Ledger.{Opening, categories, dates, periods, category, dayType, Meter, Ledger, register, start, receive, run, readTotals, readCell, readNet, searchBand, fillHole, readCoverage, Answer, refused, accepted, moved, totalsAre, cellIs, netIs, bandIs, filledAre, coverageIs, answer, Lengths, leastLengths, metersShort, cellsShort, anyShort, meterWith, registrationsOf, cellAt, dayOf, isRun, pictureOf, afterRun, movedBetween, totalsAt, sideAt, netAt, bandAt, shapeAt, fillAt, coverageAt, ledgerAnswer, ledgerAfter}
 use Rattle.ledger.specs.Calls.{openingVerdict}
 use Rattle.ledger.specs.Engine.{Parts, leaves, openedParts, Item, storeAnswers, cutLengths, lengthsOf, AreBytes, BodiesOfBytes, Every}
+
+-- ---- Demand 2, registrations: which one is in force on a date, and which one is appointed
+
+-- date and minute of a registration
+abbrev pub dateOf : Registration → ℕ
+dateOf r = r .moment / 1440
+
+abbrev pub minuteOf : Registration → ℕ
+minuteOf r = r .moment % 1440
+
+-- they are those of the call that brought it
+abbrev pub RegisteredAsGiven : Type 0
+RegisteredAsGiven = (a : RegistrationCall) → a .minute ≤ 1439 → (dateOf (registered a) ≡ a .date) × (minuteOf (registered a) ≡ a .minute)
+
+-- it starts on its date at minute 0, else on the next date
+abbrev pub StartsOn : ℕ → ℕ → ℕ → Type 0
+StartsOn date minute start = ((minute ≡ 0) × (start ≡ date)) ⊎ ((minute ≢ 0) × (start ≡ date + 1))
+
+abbrev pub StartedBy : ℕ → Registration → Type 0
+StartedBy date r = (start : ℕ) → StartsOn (dateOf r) (minuteOf r) start → start ≤ date
+
+abbrev pub StartsNoLater : Registration → Registration → Type 0
+StartsNoLater x r = (start : ℕ) → StartsOn (dateOf r) (minuteOf r) start → StartedBy start x
+
+-- its date and minute are not after minute 720 of a date
+abbrev pub ByMidday : ℕ → Registration → Type 0
+ByMidday date r = (dateOf r < date) ⊎ ((dateOf r ≡ date) × (minuteOf r ≤ 720))
+
+abbrev pub DatedNoLater : Registration → Registration → Type 0
+DatedNoLater x r = (dateOf x < dateOf r) ⊎ ((dateOf x ≡ dateOf r) × (minuteOf x ≤ minuteOf r))
+
+-- r is the latest of the registrations that are in time; of equals it is the one that came last
+pub record IsLatest (InTime : Registration → Type 0) (NoLater : Registration → Registration → Type 0) (rs : List Registration) (r : Registration) : Type 0 where
+  pub earlier : List Registration
+  pub following : List Registration
+  pub among : rs ≡ earlier ++ (r ∷ following)
+  pub in-time : InTime r
+  pub none-later : Every (λ x. InTime x → NoLater x r) earlier
+  pub none-as-late : Every (λ x. InTime x → NoLater r x → ⊥) following
+
+abbrev pub InForceOn : ℕ → List Registration → Registration → Type 0
+InForceOn date = IsLatest (StartedBy date) StartsNoLater
+
+abbrev pub AppointedOn : ℕ → List Registration → Registration → Type 0
+AppointedOn date = IsLatest (ByMidday date) DatedNoLater
+
+abbrev pub InForceExact : Type 0
+InForceExact = (date : ℕ) (rs : List Registration) (r : Registration) → (inForce date rs ≡ some r) ↔ InForceOn date rs r
+
+abbrev pub AppointedExact : Type 0
+AppointedExact = (date : ℕ) (rs : List Registration) (r : Registration) → (appointed date rs ≡ some r) ↔ AppointedOn date rs r
+
+-- a date with a category in force always has a sender; the reverse is refusal 7
+abbrev pub SenderWhereInForce : Type 0
+SenderWhereInForce =
+    (date : ℕ) (rs : List Registration) (r : Registration) → inForce date rs ≡ some r → (s : Registration) × (appointed date rs ≡ some s)
 
 -- ---- Demand 2, reception: a meter day is accepted exactly when the conditions hold
 
@@ -38,10 +94,14 @@ pub record MayReceive (l : Ledger) (n : Lengths) (a : ReceptionCall) : Type 0 wh
   pub long-enough : metersShort (l .opening) n ≡ false
   pub a-date : a .date < dates (l .opening)
   pub a-number : mpanValid (a .mpan) ≡ true
+  pub meter : Meter
+  pub known : meterWith (a .mpan) (l .known) ≡ some meter
   pub registration : Registration
-  pub in-force : currentOf (a .date) (meterWith (a .mpan) (l .known)) ≡ some registration
+  pub in-force : InForceOn (a .date) (meter .registrations) registration
   pub a-category : registration .category < categories (l .opening)
-  pub same-sender : a .sender ≡ registration .sender
+  pub appointment : Registration
+  pub at-midday : AppointedOn (a .date) (meter .registrations) appointment
+  pub same-sender : a .sender ≡ appointment .sender
   pub same-quantity : a .quantity ≡ category (l .opening) (registration .category) .quantity
   pub same-duration : a .duration ≡ l .opening .duration
   pub whole-records : length (a .body) % 7 ≡ 0
@@ -166,10 +226,6 @@ KeysDiffer =
 
 -- registration
 
--- it starts on its date at minute 0, else on the next date
-abbrev pub StartsOn : RegistrationCall → ℕ → Type 0
-StartsOn a start = ((a .minute ≡ 0) × (start ≡ a .date)) ⊎ ((a .minute ≢ 0) × (start ≡ a .date + 1))
-
 -- 16
 pub record GoodFields (o : Opening) (a : RegistrationCall) (start : ℕ) : Type 0 where
   pub minute : a .minute ≤ 1439
@@ -185,14 +241,14 @@ registrationRows l n a start meter =
     ∷ row 6 (mpanValid (a .mpan) ≡ true)
     ∷ row 16 (GoodFields (l .opening) a start)
     ∷ row 8 (meter ≡ none → length (l .known) < l .opening .meters)
-    ∷ row 10 ((m : Meter) → meter ≡ some m → (rs : List Registration) (r : Registration) → m .registrations ≡ rs ++ (r ∷ []) → r .start < start)
+    ∷ row 10 ((m : Meter) → meter ≡ some m → (rs : List Registration) (r : Registration) → m .registrations ≡ rs ++ (r ∷ []) → (last : ℕ) → StartsOn (dateOf r) (minuteOf r) last → last < start)
     ∷ row 11 ((m : Meter) → meter ≡ some m → (d : ℕ) → start ≤ d → d < dates (l .opening) → m .held d ≡ none)
     ∷ row 12 ((m : Meter) → meter ≡ some m → length (m .registrations) < 8)
     ∷ []
 
 abbrev pub RegistrationExact : Type 0
 RegistrationExact =
-    (l : Ledger) (n : Lengths) (a : RegistrationCall) (start : ℕ) → StartsOn a start →
+    (l : Ledger) (n : Lengths) (a : RegistrationCall) (start : ℕ) → StartsOn (a .date) (a .minute) start →
     GoesBy (registrationRows l n a start (meterWith (a .mpan) (l .known))) accepted (ledgerAnswer l n (register a))
 
 -- reception
@@ -209,25 +265,25 @@ recordRows o r body k =
     ∷ rowOf k 1012 (wattHoursAt body k ≤ r .limit)
     ∷ []
 
--- 2, 1001, 1002, 1004, 13: under the registration in force, if there is one
-abbrev pub underRows : Opening → ReceptionCall → Option Registration → List Row
-underRows o a none = []
-underRows o a (some r) =
+-- 2, 1001, 1002, 1004, 13: under the registration in force, if there is one; the sender is that of the one appointed
+abbrev pub underRows : Opening → ReceptionCall → Option Registration → Option Registration → List Row
+underRows o a appointment none = []
+underRows o a appointment (some r) =
     row 2 (r .category < categories o)
-    ∷ row 1001 (a .sender ≡ r .sender)
+    ∷ row 1001 ((s : Registration) × (appointment ≡ some s) × (a .sender ≡ s .sender))
     ∷ row 1002 (a .quantity ≡ category o (r .category) .quantity)
     ∷ row 1004 (a .duration ≡ o .duration)
     ∷ row 13 ((k : ℕ) × (length (a .body) ≡ 7 * k))
     ∷ []
 
 -- and before them 1, 9, 6, 7
-abbrev pub headerRows : Ledger → Lengths → ReceptionCall → Option Registration → List Row
-headerRows l n a current =
+abbrev pub headerRows : Ledger → Lengths → ReceptionCall → Option Registration → Option Registration → List Row
+headerRows l n a appointment current =
     row 1 (MetersLong (l .opening) n)
     ∷ row 9 (a .date < dates (l .opening))
     ∷ row 6 (mpanValid (a .mpan) ≡ true)
     ∷ row 7 ((r : Registration) × (current ≡ some r))
-    ∷ underRows (l .opening) a current
+    ∷ underRows (l .opening) a appointment current
 
 -- then the records
 abbrev pub bodyRows : Opening → ReceptionCall → Option Registration → List Row
@@ -237,17 +293,19 @@ bodyRows o a (some r) = eachBelow (length (a .body) / 7) (recordRows o r (a .bod
 abbrev pub ReceptionAnswer : Type 0
 ReceptionAnswer =
     (l : Ledger) (n : Lengths) (a : ReceptionCall) → durationKnown (l .opening .duration) ≡ true →
-    let current = currentOf (a .date) (meterWith (a .mpan) (l .known)) in
-    GoesBy (headerRows l n a current ++ bodyRows (l .opening) a current) accepted (ledgerAnswer l n (receive a))
+    let meter = registrationsOf (meterWith (a .mpan) (l .known)) in
+    let current = foundIn (inForce (a .date)) meter in
+    GoesBy (headerRows l n a (foundIn (appointed (a .date)) meter) current ++ bodyRows (l .opening) a current) accepted (ledgerAnswer l n (receive a))
 
 -- so a refusal with a place is that of the first bad record, with the number of the first of its rows that does not hold
 abbrev pub ReceptionPlaces : Type 0
 ReceptionPlaces =
     (l : Ledger) (n : Lengths) (a : ReceptionCall) (r : Registration) → durationKnown (l .opening .duration) ≡ true →
-    currentOf (a .date) (meterWith (a .mpan) (l .known)) ≡ some r →
+    let meter = registrationsOf (meterWith (a .mpan) (l .known)) in
+    foundIn (inForce (a .date)) meter ≡ some r →
     (number k : ℕ) →
     (ledgerAnswer l n (receive a) ≡ refused number (suc k))
-    ↔ (AllHold (headerRows l n a (some r)) × (k < length (a .body) / 7) × ((i : ℕ) → i < k → GoodRecord (l .opening) r (a .body) i)
+    ↔ (AllHold (headerRows l n a (foundIn (appointed (a .date)) meter) (some r)) × (k < length (a .body) / 7) × ((i : ℕ) → i < k → GoodRecord (l .opening) r (a .body) i)
     × FirstFails (recordRows (l .opening) r (a .body) k) number (suc k))
 
 -- run and reads

@@ -151,14 +151,10 @@ afterRegistration l a =
 
 -- ---- reception
 
-abbrev pub currentOf : ℕ → Option Meter → Option Registration
-currentOf date none = none
-currentOf date (some m) = inForce date (m .registrations)
-
 unfoldable pub ledgerReceptionCheck : Ledger → Lengths → ReceptionCall → Verdict
 ledgerReceptionCheck l n a =
     receptionCheck (metersShort (l .opening) n) (dates (l .opening)) (l .opening .duration) (categories (l .opening)) (category (l .opening))
-    (currentOf (a .date) (meterWith (a .mpan) (l .known)))
+    (registrationsOf (meterWith (a .mpan) (l .known)))
     a
 
 -- the set that a body brings

@@ -1,4 +1,4 @@
--- The scope paper's marked list as one computed check; its worked example, one of nets, one of bands, one of fills and one of coverage as computed runs of the ledger.
+-- The scope paper's marked list as one computed check; its worked example, one of nets, one of bands, one of fills, one of coverage and one of senders as computed runs of the ledger.
 use Prim.Native.Nat.{ℕ, zero, suc, _/_, _%_}
 use mathlib.Core.Path.{_≡_, refl}
 use mathlib.Core.Bool.{Bool, true, false, not, _&&_, Bool·beq}
@@ -12,14 +12,14 @@ use Rattle.metering.specs.Mpan.{mpanValid, checkDigit, weightedSum, product, di
 use Rattle.metering.specs.Average.{average, annual}
 use Rattle.metering.specs.Range.{between, dayTypeValid}
 use Rattle.metering.specs.Calendar.{periodsPerDay, periodEnding, liesWithin, windowStart, windowEnd}
-use Rattle.ledger.specs.Method.{Category, categoryAt, isSmart, sameFamily, HeldSet, Picture, total, isEnough, freshOf, freshIn, Cell, D, blank, carried, cellFrom, ran, afterDate, latest, cellOf, cellOn, sameCell, movedCell, overRunDates, freshAmong, blanksAmong, totOn, offOn, peakOn, totalsOn, originOf, oldestAmong, coverageOn}
+use Rattle.ledger.specs.Method.{Category, categoryAt, isSmart, sameFamily, HeldSet, Picture, total, isEnough, freshOf, freshIn, Cell, A, D, N, blank, carried, cellFrom, ran, afterDate, latest, cellOf, cellOn, sameCell, movedCell, overRunDates, freshAmong, blanksAmong, totOn, offOn, peakOn, totalsOn, originOf, oldestAmong, coverageOn}
 use Rattle.ledger.specs.Table.{tabulate, chosenBelow, firstFrom}
 use Rattle.ledger.specs.Net.{onSide, sideOf, sumOver, anyOf, signedSum, netPeriod, markOf, netTot, netTot7, netOn}
 use Rattle.ledger.specs.Band.{inBand, bandDates, bandOn}
 use Rattle.ledger.specs.Fill.{ShapeOf, ofCategory, ofOptedOut, isOptedOutShape, shapeCategory, weightBy, mayFill, comesBefore, countBefore, wholePart, remainderOf, leftOver, filledValue, filledValues}
-use Rattle.ledger.specs.Checks.{firstFailed, anyBelow, orElse, firstNumber, callNumber, contentNumber, recordNumberIf, recordNumber, endMinute, quality, wattHoursAt, startOf, later, inForceAfter, inForce, notAfterLast, fieldsNumber, knownNumber, meterNumber, registrationCheck, headerNumber, bodyCheck, inForceCheck, receptionCheck, isReading, readingIn, runCheck, readCheck, totalsInRange, cellInRange, listsShort, mayNet, netCheck, bandCheck, fillCheck}
+use Rattle.ledger.specs.Checks.{firstFailed, anyBelow, orElse, firstNumber, callNumber, contentNumber, recordNumberIf, recordNumber, endMinute, quality, wattHoursAt, momentOf, startOf, starts, later, latestFrom, inForce, appointed, notAfterLast, fieldsNumber, knownNumber, meterNumber, registrationCheck, headerNumber, bodyCheck, inForceCheck, receptionCheck, isReading, readingIn, runCheck, readCheck, totalsInRange, cellInRange, listsShort, mayNet, netCheck, bandCheck, fillCheck}
 use Rattle.ledger.specs.Sizes.{settingsLength, metersLength, readingsLength, cellsLength, daysLength}
-use Rattle.ledger.specs.Ledger.{Opening, Ledger, start, Call, register, receive, run, readTotals, readCell, readNet, searchBand, fillHole, readCoverage, Answer, refused, accepted, moved, totalsAre, netIs, bandIs, filledAre, coverageIs, answer, left, Lengths, leastLengths, settingsShort, metersShort, cellsShort, daysShort, anyShort, meterWith, changed, heldFrom, ledgerRegistrationCheck, registerIn, afterRegistration, ledgerReceptionCheck, setOf, at, afterReception, cellBy, cellAt, isRun, ledgerRunCheck, pictureOf, afterRun, movedBetween, ledgerTotalsCheck, ledgerCellCheck, totalsAt, ledgerNetCheck, sideAt, netAt, ledgerBandCheck, bandAt, shapeAt, weightAt, ledgerFillCheck, fillAt, ledgerCoverageCheck, coverageAt, ledgerAnswer, ledgerAfter}
+use Rattle.ledger.specs.Ledger.{Opening, Ledger, start, Call, register, receive, run, readTotals, readCell, readNet, searchBand, fillHole, readCoverage, Answer, refused, accepted, moved, totalsAre, cellIs, netIs, bandIs, filledAre, coverageIs, answer, left, Lengths, leastLengths, settingsShort, metersShort, cellsShort, daysShort, anyShort, meterWith, changed, heldFrom, ledgerRegistrationCheck, registerIn, afterRegistration, ledgerReceptionCheck, setOf, at, afterReception, cellBy, cellAt, isRun, ledgerRunCheck, pictureOf, afterRun, movedBetween, ledgerTotalsCheck, ledgerCellCheck, totalsAt, ledgerNetCheck, sideAt, netAt, ledgerBandCheck, bandAt, shapeAt, weightAt, ledgerFillCheck, fillAt, ledgerCoverageCheck, coverageAt, ledgerAnswer, ledgerAfter}
 use Rattle.ledger.specs.Engine.{Parts, openedParts, Item, storeAnswers, lengthsOf}
 use Rattle.ledger.specs.Demands.{Accepts}
 
@@ -126,11 +126,19 @@ netOpening =
       dayTypes = 1 ∷ 1 ∷ [];
     }
 
+abbrev pub appoints : ℕ → ℕ → ℕ → ℕ → ℕ → ℕ → Call
+appoints mpan date minute c sender limit =
+    register (record { mpan = mpan; date = date; minute = minute; category = c; sender = sender; status = 1; limit = limit })
+
 abbrev pub registers : ℕ → ℕ → Call
-registers mpan c = register (record { mpan = mpan; date = 0; minute = 0; category = c; sender = 7; status = 1; limit = 10000 })
+registers mpan c = appoints mpan 0 0 c 7 10000
+
+abbrev pub sendsBy : ℕ → ℕ → ℕ → ℕ → List ℕ → Call
+sendsBy sender mpan date quantity body =
+    receive (record { sender = sender; mpan = mpan; date = date; duration = 30; quantity = quantity; body = body })
 
 abbrev pub sends : ℕ → ℕ → ℕ → List ℕ → Call
-sends mpan date quantity body = receive (record { sender = 7; mpan = mpan; date = date; duration = 30; quantity = quantity; body = body })
+sends = sendsBy 7
 
 -- a record of quality 1 with fewer than 65,536 Wh
 abbrev pub half : ℕ → ℕ → List ℕ → List ℕ
@@ -370,7 +378,78 @@ coverageAnswers =
     ∷ refused 9 0
     ∷ []
 
--- ---- all five, computed
+-- ---- a worked example of senders (change request 2026-03)
+
+-- two categories of families of their own, four dates
+abbrev pub senderOpening : Opening
+senderOpening =
+    record {
+      duration = 30;
+      meters = 2;
+      categoryBytes =
+          1 ∷ 1 ∷ 1 ∷ 1 ∷ 1 ∷ 0 ∷ 0 ∷ 1
+          ∷ 1 ∷ 1 ∷ 1 ∷ 1 ∷ 2 ∷ 0 ∷ 0 ∷ 1
+          ∷ [];
+      dayTypes = 1 ∷ 1 ∷ 1 ∷ 1 ∷ [];
+    }
+
+abbrev pub otherMpan : ℕ
+otherMpan = 1010000000000
+
+-- a day with one reading
+abbrev pub sentBy : ℕ → ℕ → ℕ → ℕ → Call
+sentBy sender mpan date wh = sendsBy sender mpan date 1 (half 30 wh [])
+
+-- The first meter changes its service at 09:00 of date 1 and again at minute 721 of date 2; the other one starts at 10:00 of date 1 and
+-- changes at minute 720 of date 2.
+abbrev pub senderCalls : List Call
+senderCalls =
+    appoints exampleMpan 0 0 0 7 10000
+    ∷ appoints exampleMpan 1 540 1 8 10
+    ∷ sentBy 7 exampleMpan 1 50
+    ∷ sentBy 8 exampleMpan 1 50
+    ∷ run 1
+    ∷ readCell 1 0 1
+    ∷ readCell 1 1 1
+    ∷ sentBy 8 exampleMpan 2 50
+    ∷ appoints exampleMpan 2 721 0 9 10000
+    ∷ sentBy 9 exampleMpan 2 10
+    ∷ sentBy 8 exampleMpan 2 10
+    ∷ appoints otherMpan 1 600 0 5 10000
+    ∷ sentBy 5 otherMpan 1 50
+    ∷ sentBy 5 otherMpan 2 50
+    ∷ appoints otherMpan 2 0 0 6 10000
+    ∷ appoints otherMpan 2 720 0 6 10000
+    ∷ sentBy 5 otherMpan 2 50
+    ∷ sentBy 6 otherMpan 2 50
+    ∷ appoints exampleMpan 3 540 0 8 10000
+    ∷ []
+
+-- date 1 of the first meter counts for category 0 still, under the limit of then; the other meter has no category on date 1
+abbrev pub senderAnswers : List Answer
+senderAnswers =
+    accepted
+    ∷ accepted
+    ∷ refused 1001 0
+    ∷ accepted
+    ∷ moved 1
+    ∷ cellIs (record { flag = A; value = 50; count = 1; origin = 1 })
+    ∷ cellIs (record { flag = N; value = 0; count = 0; origin = 65535 })
+    ∷ refused 1012 1
+    ∷ accepted
+    ∷ refused 1001 0
+    ∷ accepted
+    ∷ accepted
+    ∷ refused 7 0
+    ∷ accepted
+    ∷ refused 10 0
+    ∷ accepted
+    ∷ refused 1001 0
+    ∷ accepted
+    ∷ refused 16 0
+    ∷ []
+
+-- ---- all six, computed
 
 pub worked-examples :
     (ledgerRun (start exampleOpening) (leastLengths exampleOpening) exampleCalls ≡ exampleAnswers)
@@ -378,8 +457,9 @@ pub worked-examples :
     × (ledgerRun (start bandOpening) (leastLengths bandOpening) bandCalls ≡ bandAnswers)
     × (ledgerRun (start fillOpening) (leastLengths fillOpening) fillCalls ≡ fillAnswers)
     × (ledgerRun (start coverageOpening) (leastLengths coverageOpening) coverageCalls ≡ coverageAnswers)
-unfolding ledgerRun start ledgerAnswer ledgerAfter answer left settingsShort metersShort cellsShort anyShort meterWith changed heldFrom ledgerRegistrationCheck registerIn afterRegistration ledgerReceptionCheck setOf at afterReception cellBy cellAt isRun ledgerRunCheck pictureOf afterRun movedBetween ledgerTotalsCheck ledgerCellCheck totalsAt settingsLength metersLength readingsLength cellsLength firstFailed startOf later inForceAfter inForce notAfterLast meterNumber registrationCheck bodyCheck inForceCheck receptionCheck isReading readingIn runCheck readCheck totalsInRange cellInRange movedCell overRunDates totOn offOn peakOn totalsOn categoryAt mpanValid checkDigit weightedSum product digit weights sumBelow average annual recordNumber periodEnding periodsPerDay liesWithin windowStart windowEnd between sameCell blank cellOn cellOf cellFrom latest afterDate freshIn freshOf isEnough total isSmart sameFamily anyBelow endMinute quality wattHoursAt carried netCheck listsShort mayNet ledgerNetCheck sideAt netAt onSide chosenBelow sideOf sumOver anyOf signedSum netPeriod markOf netTot netTot7 netOn tabulate orElse firstNumber callNumber fieldsNumber knownNumber headerNumber recordNumberIf contentNumber bandCheck ledgerBandCheck bandAt bandOn bandDates inBand dayTypeValid fillCheck ledgerFillCheck shapeAt weightAt fillAt isOptedOutShape shapeCategory firstFrom weightBy mayFill comesBefore countBefore wholePart remainderOf leftOver filledValue filledValues daysLength daysShort ledgerCoverageCheck coverageAt freshAmong blanksAmong originOf oldestAmong coverageOn
-worked-examples = (refl, refl, refl, refl, refl)
+    × (ledgerRun (start senderOpening) (leastLengths senderOpening) senderCalls ≡ senderAnswers)
+unfolding ledgerRun start ledgerAnswer ledgerAfter answer left settingsShort metersShort cellsShort anyShort meterWith changed heldFrom ledgerRegistrationCheck registerIn afterRegistration ledgerReceptionCheck setOf at afterReception cellBy cellAt isRun ledgerRunCheck pictureOf afterRun movedBetween ledgerTotalsCheck ledgerCellCheck totalsAt settingsLength metersLength readingsLength cellsLength firstFailed momentOf startOf starts later latestFrom inForce appointed notAfterLast meterNumber registrationCheck bodyCheck inForceCheck receptionCheck isReading readingIn runCheck readCheck totalsInRange cellInRange movedCell overRunDates totOn offOn peakOn totalsOn categoryAt mpanValid checkDigit weightedSum product digit weights sumBelow average annual recordNumber periodEnding periodsPerDay liesWithin windowStart windowEnd between sameCell blank cellOn cellOf cellFrom latest afterDate freshIn freshOf isEnough total isSmart sameFamily anyBelow endMinute quality wattHoursAt carried netCheck listsShort mayNet ledgerNetCheck sideAt netAt onSide chosenBelow sideOf sumOver anyOf signedSum netPeriod markOf netTot netTot7 netOn tabulate orElse firstNumber callNumber fieldsNumber knownNumber headerNumber recordNumberIf contentNumber bandCheck ledgerBandCheck bandAt bandOn bandDates inBand dayTypeValid fillCheck ledgerFillCheck shapeAt weightAt fillAt isOptedOutShape shapeCategory firstFrom weightBy mayFill comesBefore countBefore wholePart remainderOf leftOver filledValue filledValues daysLength daysShort ledgerCoverageCheck coverageAt freshAmong blanksAmong originOf oldestAmong coverageOn
+worked-examples = (refl, refl, refl, refl, refl, refl)
 
 -- ---- the same on the engine, from its opening on
 
@@ -392,7 +472,7 @@ abbrev pub EngineAnswers : Opening → List Call → List Answer → Type 0
 EngineAnswers a calls answers =
     (p : Parts) → lengthsOf p ≡ leastLengths a → Accepts p a × (storeAnswers (openedParts p a) (lentLeast a calls) ≡ answers)
 
--- all five examples
+-- all six examples
 abbrev pub WorkedOnEngine : Type 0
 WorkedOnEngine =
     EngineAnswers exampleOpening exampleCalls exampleAnswers
@@ -400,3 +480,4 @@ WorkedOnEngine =
     × EngineAnswers bandOpening bandCalls bandAnswers
     × EngineAnswers fillOpening fillCalls fillAnswers
     × EngineAnswers coverageOpening coverageCalls coverageAnswers
+    × EngineAnswers senderOpening senderCalls senderAnswers

@@ -73,7 +73,8 @@ cellsReady s cells = leb (cellsLength (categoriesOf s) (datesOf s) (periodsOf s)
 unfoldable pub daysReady : List ℕ → List ℕ → Bool
 daysReady s days = leb (daysLength (categoriesOf s) (datesOf s)) (length days)
 
--- ---- meters: M MPANs, 0 where the slot is free, then for each slot eight registrations; status 0 says that one is unused
+-- ---- meters: M MPANs, 0 where the slot is free, then for each slot eight registrations of five entries, the moment first; status 0
+-- says that one is unused
 
 unfoldable pub mpanAt : List ℕ → ℕ → ℕ
 mpanAt meters i = getD meters i 0
@@ -92,7 +93,7 @@ registrationIndex M i k = M + 40 * i + 5 * k
 unfoldable pub registrationAt : ℕ → List ℕ → ℕ → ℕ → Registration
 registrationAt M meters i k =
     record {
-      start = getD meters (registrationIndex M i k) 0;
+      moment = getD meters (registrationIndex M i k) 0;
       category = getD meters (registrationIndex M i k + 1) 0;
       sender = getD meters (registrationIndex M i k + 2) 0;
       status = getD meters (registrationIndex M i k + 3) 0;
@@ -116,7 +117,7 @@ knownAt M mpan meters = ltb (slotOf M mpan meters) M && eqb (mpanAt meters (slot
 -- slot i has the MPAN, and registration k
 unfoldable pub putRegistration : ℕ → ℕ → ℕ → ℕ → Registration → List ℕ → List ℕ
 putRegistration M mpan i k r meters =
-    sets (set meters i mpan) (registrationIndex M i k) (r .start ∷ r .category ∷ r .sender ∷ r .status ∷ r .limit ∷ [])
+    sets (set meters i mpan) (registrationIndex M i k) (r .moment ∷ r .category ∷ r .sender ∷ r .status ∷ r .limit ∷ [])
 
 -- ---- readings: for each date and slot a mark, not 0 where a set is held, then an entry for each period
 

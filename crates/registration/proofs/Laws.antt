@@ -9,7 +9,7 @@ use lib.Dec.{leb, eqb}
 use lib.ListN.{length}
 use borrow.Table.Steps.{cases}
 use borrow.Author.Tests.{ne-eqb, le-leb, lt-leb, leb-true, leb-false}
-use Rattle.ledger.specs.Checks.{RegistrationCall, Verdict, verdict, firstNumber, callNumber, startOf, fieldsNumber, knownNumber, meterNumber, anyBelow, registrationCheck}
+use Rattle.ledger.specs.Checks.{RegistrationCall, Verdict, verdict, firstNumber, callNumber, momentOf, startOf, fieldsNumber, knownNumber, meterNumber, anyBelow, registrationCheck}
 use Rattle.ledger.specs.Store.{metersOf, datesOf, categoriesOf, periodsOf, mpanAt, slotOf, knownAt, registrationsAt, isHeldAt, putRegistration}
 use Rattle.ledger.specs.Ledger.{accepted, refused, answer, left}
 use Rattle.ledger.specs.Calls.{metersUnready, slotFor, registrationsFor, heldFromAt, usedOf, registrationVerdict, registeredMeters}
@@ -91,14 +91,14 @@ module _ (s m r : List ℕ) (a : RegistrationCall) where
   pub refused-with : (n : ℕ) → v ≡ verdict n → (n ≡ 0 → ⊥) → (refused n 0 ≡ answer v accepted) × (m ≡ left v m (registeredMeters s m r a))
   refused-with n p h = rw p (refused-is (verdict n) n refl accepted refl h, kept-is (verdict n) n refl m (registeredMeters s m r a) h)
 
-  pub accepted-with : (n : ℕ) → v ≡ verdict n → n ≡ 0 → (slots slot used start : ℕ) {after : List ℕ} → slots ≡ metersOf s → slot ≡ slotFor s m r (a .mpan) →
-      used ≡ cond (knownAt slots (a .mpan) m) (length (registrationsAt slots m slot)) 0 → start ≡ startOf (a .date) (a .minute) →
-      after ≡ putRegistration slots (a .mpan) slot used (registrationOf start (a .category) (a .sender) (a .status) (a .limit)) m →
+  pub accepted-with : (n : ℕ) → v ≡ verdict n → n ≡ 0 → (slots slot used moment : ℕ) {after : List ℕ} → slots ≡ metersOf s → slot ≡ slotFor s m r (a .mpan) →
+      used ≡ cond (knownAt slots (a .mpan) m) (length (registrationsAt slots m slot)) 0 → moment ≡ momentOf (a .date) (a .minute) →
+      after ≡ putRegistration slots (a .mpan) slot used (registrationOf moment (a .category) (a .sender) (a .status) (a .limit)) m →
       (accepted ≡ answer v accepted) × (after ≡ left v m (registeredMeters s m r a))
-  accepted-with n p h slots slot used start e1 e2 e3 e4 put =
+  accepted-with n p h slots slot used moment e1 e2 e3 e4 put =
       rw p (given-is (verdict n) n refl accepted h, put ∙ written ∙ after-is (verdict n) n refl m (registeredMeters s m r a) h)
     where
-      written : putRegistration slots (a .mpan) slot used (registrationOf start (a .category) (a .sender) (a .status) (a .limit)) m ≡ registeredMeters s m r a
+      written : putRegistration slots (a .mpan) slot used (registrationOf moment (a .category) (a .sender) (a .status) (a .limit)) m ≡ registeredMeters s m r a
       written = unfold registeredMeters in rw (e3, e1, e2, e4, used-is s m r (a .mpan) (slotFor s m r (a .mpan)) refl)
 
 pub used-below : (s m r : List ℕ) (mpan slots slot used : ℕ) → slots ≡ metersOf s → slot ≡ slotFor s m r mpan →

@@ -6,9 +6,11 @@ use settings::header::meter_count;
 use settings::header::period_count;
 use store::meter_call::call_number;
 use store::meters::has_mpan;
+use store::meters::moment_of;
 use store::meters::put_registration;
 use store::meters::slot_of;
 use store::meters::start_not_after_last;
+use store::meters::start_of;
 use store::meters::used_count;
 use store::outcome::Outcome;
 use store::readings::held_from;
@@ -20,21 +22,10 @@ ghost use lib.ListN.{length};
 ghost use Rattle.store.specs.Outcome.{answerOf};
 ghost use Rattle.registration.specs.Registration.{registrationCall};
 ghost use Rattle.ledger.specs.Sizes.{metersLength, readingsLength};
-ghost use Rattle.ledger.specs.Checks.{startOf, fieldsNumber, knownNumber, meterNumber, anyBelow};
+ghost use Rattle.ledger.specs.Checks.{fieldsNumber, knownNumber, meterNumber, anyBelow};
 ghost use Rattle.ledger.specs.Store.{metersOf, categoriesOf, datesOf, slotOf, knownAt, registrationsAt, isHeldAt};
 ghost use Rattle.ledger.specs.Ledger.{answer, accepted, left};
 ghost use Rattle.ledger.specs.Calls.{metersUnready, slotFor, registrationsFor, heldFromAt, registrationVerdict, registeredMeters};
-
-// It starts on its date at minute 0, else on the next.
-fn start_of(date: u64, minute: u64) -> u64
-    requires { ⌜ date < 800 ⌝ }
-    ensures { λ r. ⌜ r ≡ startOf date minute ⌝ }
-{
-    if minute == 0 {
-        return date;
-    }
-    date + 1
-}
 
 // 16: a field out of range.
 fn fields_number(settings: &[u8], start: u64, minute: u64, category: u64, status: u64) -> u64
@@ -159,13 +150,14 @@ pub fn register(
         return Outcome::Refused { number, place: 0 };
     }
     let used = used_by(slots, meters, mpan, slot);
+    let moment = moment_of(date, minute);
     put_registration(
         slots,
         meters,
         mpan,
         slot,
         used,
-        start,
+        moment,
         category,
         sender as u64,
         status,

@@ -8,7 +8,7 @@ use Rattle.ledger.specs.Checks.{RegistrationCall, verdict, callNumber}
 use Rattle.ledger.specs.Sizes.{metersLength}
 use Rattle.ledger.specs.Store.{metersOf, datesOf}
 use Rattle.ledger.specs.Calls.{metersUnready, slotFor, usedOf, registrationsFor, registrationVerdict}
-use Rattle.ledger.proofs.Choices.{call-passed}
+use Rattle.ledger.proofs.Choices.{call-passed, fields-passed}
 use Rattle.store.proofs.LentLaws.{Lent, lent}
 use Rattle.registration.specs.Registration.{registrationCall}
 use Rattle.registration.proofs.Laws.{slot-is, meter-passed, verdict-call, verdict-fields, verdict-meter, refused-with, accepted-with, used-below}
@@ -107,13 +107,23 @@ used-by-requires c κs =
     let e = b .before .before .meter-count .ensures in
     (rw e (k .known .meters .1), rw e (room (c .before) .0), rw e (k .meters), b .slot-of .ensures)
 
+moment-of-requires : tie.Need-moment-of-requires
+moment-of-requires c κs =
+    let b = found (c .before .before .before) in
+    let f = ranged b in
+    let k = parts (called b) in
+    let dated = call-passed _ _ _ _ (passed (called b)) .dated in
+    let fields = fields-passed _ _ _ _ _ _ (sym (f .before .fields-number .ensures) ∙ f .if2 .left) .minute-is in
+    (omega arith, omega arith)
+
 put-registration-requires : tie.Need-put-registration-requires
 put-registration-requires c κs =
-    let d = c .before .before .before in
+    let u = c .before .before in
+    let d = u .before .before in
     let b = found (d .before) in
     let k = parts (called b) in
     let e = b .before .before .meter-count .ensures in
-    (rw e (k .known .meters .1), rw e (room d .0), rw e (k .meters), used-below _ _ _ _ _ _ _ e (slot b) (c .before .used-by .ensures) (room d .1))
+    (rw e (k .known .meters .1), rw e (room d .0), rw e (k .meters), used-below _ _ _ _ _ _ _ e (slot b) (u .used-by .ensures) (room d .1))
 
 same-length-4 : tie.Need-same-length-4
 same-length-4 c = search needs
@@ -121,11 +131,12 @@ same-length-4 c = search needs
 returns-4 : tie.Need-returns-4
 returns-4 c =
     let w = c .before .before in
-    let u = w .before .before in
+    let m = w .before .before in
+    let u = m .before in
     let d = u .before .before in
     let b = found (d .before) in
     accepted-with _ _ _ _ _ (verdict-is (d .before)) (d .if3 .left) _ _ _ _ (b .before .before .meter-count .ensures) (slot b) (u .used-by .ensures)
-    (ranged b .before .before .start-of .ensures) (w .put-registration .ensures)
+    (m .moment-of .ensures) (w .put-registration .ensures)
 
 pub register-spec : {M : Type 1} → statement M
 register-spec =
@@ -144,6 +155,7 @@ register-spec =
     same-length-3
     returns-3
     used-by-requires
+    moment-of-requires
     put-registration-requires
     same-length-4
     returns-4)

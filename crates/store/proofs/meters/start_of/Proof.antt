@@ -2,8 +2,8 @@
 use borrow.Author.Needs.{needs}
 use borrow.Author.Tests.{eq-eqb, ne-eqb}
 use Rattle.ledger.specs.Checks.{startOf}
-use Rattle.registration.proofs.start_of.Statement.{statement}
-use Rattle.registration.proofs.start_of.Tie as tie
+use Rattle.store.proofs.meters.start_of.Statement.{statement}
+use Rattle.store.proofs.meters.start_of.Tie as tie
 
 returns : tie.Need-returns
 unfolding startOf
