@@ -3,7 +3,6 @@ use Prim.Native.Nat.{ℕ, _≤_, _<_}
 use mathlib.Core.Path.{_≡_, refl, sym, _∙_}
 use mathlib.Core.Bool.{Bool, true, false, _&&_, cond, true≢false}
 use mathlib.Core.List.{List}
-use mathlib.Core.Option.{none, some}
 use native.Mathlib.Omega.{arith}
 use lib.Dec.{leb, eqb}
 use lib.ListN.{length}
@@ -16,7 +15,7 @@ use Rattle.ledger.specs.Calls.{metersUnready, slotFor, registrationsFor, heldFr
 use Rattle.ledger.proofs.Choices.{check-passed, known-passed}
 use Rattle.ledger.proofs.Verdicts.{refused-is, kept-is, given-is, after-is}
 use Rattle.store.specs.Meters.{registrationOf}
-use Rattle.store.proofs.LentLaws.{known-slot, unknown-slot}
+use Rattle.store.proofs.LentLaws.{known-slot, unknown-slot, registrations-are}
 
 -- ---- the slot of an MPAN
 
@@ -29,23 +28,19 @@ module _ (s m r : List ℕ) (mpan slot : ℕ) (e : slot ≡ slotFor s m r mpan) 
   unfolding slotFor
   found = e
 
-  registrations-are : registrationsFor s m r mpan ≡ cond (knownAt (metersOf s) mpan m) (some (registrationsAt (metersOf s) m slot)) none
-  unfolding registrationsFor
-  registrations-are = rw e
-
   used-is : usedOf (registrationsFor s m r mpan) ≡ cond (knownAt (metersOf s) mpan m) (length (registrationsAt (metersOf s) m slot)) 0
-  used-is = rw registrations-are (cases (knownAt (metersOf s) mpan m) (λ k. rw k) (λ k. rw k))
+  used-is = rw (registrations-are s m r mpan slot found) (cases (knownAt (metersOf s) mpan m) (λ k. rw k) (λ k. rw k))
 
   -- its number, from a start on: no slot is left, a free one, or the number of a known meter
   module _ (start : ℕ) where
     pub number-full : (held : Bool) → metersOf s ≤ slot → meterNumber (leb (metersOf s) slot) start held (registrationsFor s m r mpan) ≡ 8
     unfolding meterNumber
-    number-full held h = rw (registrations-are, unknown-slot (metersOf s) mpan m slot found h, le-leb (metersOf s) slot h)
+    number-full held h = rw (registrations-are s m r mpan slot found, unknown-slot (metersOf s) mpan m slot found h, le-leb (metersOf s) slot h)
 
     pub number-new : (held : Bool) → slot < metersOf s → eqb (mpanAt m slot) mpan ≡ false →
         meterNumber (leb (metersOf s) slot) start held (registrationsFor s m r mpan) ≡ 0
     unfolding meterNumber
-    number-new held h f = rw (registrations-are, known-slot (metersOf s) mpan m slot found h ∙ f, lt-leb (metersOf s) slot h)
+    number-new held h f = rw (registrations-are s m r mpan slot found, known-slot (metersOf s) mpan m slot found h ∙ f, lt-leb (metersOf s) slot h)
 
     pub number-known : (slots dates periods : ℕ) {n : ℕ} → slots ≡ metersOf s → dates ≡ datesOf s → periods ≡ periodsOf s →
         slot < slots → eqb (mpanAt m slot) mpan ≡ true →
@@ -53,7 +48,7 @@ module _ (s m r : List ℕ) (mpan slot : ℕ) (e : slot ≡ slotFor s m r mpan) 
         n ≡ meterNumber (leb (metersOf s) slot) start (heldFromAt s m r start slot) (registrationsFor s m r mpan)
     unfolding meterNumber heldFromAt
     number-known slots dates periods e1 e2 e3 h t n =
-        rw (registrations-are, known-slot (metersOf s) mpan m slot found (omega arith) ∙ t, ← e1, ← e2, ← e3) n
+        rw (registrations-are s m r mpan slot found, known-slot (metersOf s) mpan m slot found (omega arith) ∙ t, ← e1, ← e2, ← e3) n
 
     -- where it is 0 there is a slot, with room for one more
     pub meter-passed : meterNumber (leb (metersOf s) slot) start (heldFromAt s m r start slot) (registrationsFor s m r mpan) ≡ 0 →
@@ -63,9 +58,9 @@ module _ (s m r : List ℕ) (mpan slot : ℕ) (e : slot ≡ slotFor s m r mpan) 
         cases (knownAt (metersOf s) mpan m)
         (λ k. (
           leb-false _ _ (cases (leb (metersOf s) slot) (λ b. absurd (true≢false (sym k ∙ unknown-slot (metersOf s) mpan m slot found (leb-true _ _ b)))) (λ b. b)),
-          rw (registrations-are, k) (known-passed _ _ _ (rw (registrations-are, k) at h)),
+          rw (registrations-are s m r mpan slot found, k) (known-passed _ _ _ (rw (registrations-are s m r mpan slot found, k) at h)),
         ))
-        (λ k. (leb-false _ _ (check-passed (leb (metersOf s) slot) 7 0 (rw (registrations-are, k) at h) .0), rw (registrations-are, k) (omega arith)))
+        (λ k. (leb-false _ _ (check-passed (leb (metersOf s) slot) 7 0 (rw (registrations-are s m r mpan slot found, k) at h) .0), rw (registrations-are s m r mpan slot found, k) (omega arith)))
 
 -- ---- the whole call
 
