@@ -47,10 +47,10 @@ module _ (key : Registration → ℕ) (bound : ℕ) where
   beats-not none x b p = b
   beats-not (some c) x b p = omega arith
 
-  abbrev Latest : List Registration → Registration → Type 0
-  Latest rs r = IsLatest (λ x. key x ≤ bound) (λ x y. key x ≤ key y) rs r
+  abbrev LatestByKey : List Registration → Registration → Type 0
+  LatestByKey rs r = IsLatest (λ x. key x ≤ bound) (λ x y. key x ≤ key y) rs r
 
-  before : (x : Registration) (rs : List Registration) (r : Registration) → (key x ≤ bound → key x ≤ key r) → Latest rs r → Latest (x ∷ rs) r
+  before : (x : Registration) (rs : List Registration) (r : Registration) → (key x ≤ bound → key x ≤ key r) → LatestByKey rs r → LatestByKey (x ∷ rs) r
   before x rs r h l =
       record {
         earlier = x ∷ l .earlier;
@@ -63,7 +63,7 @@ module _ (key : Registration → ℕ) (bound : ℕ) where
 
   -- the one found was the best already, or it is the latest of the list
   found : (best : Option Registration) (rs : List Registration) (r : Registration) → latestFrom key bound best rs ≡ some r →
-      ((best ≡ some r) × Every (λ x. key x ≤ bound → key r ≤ key x → ⊥) rs) ⊎ (Passed key best r × Latest rs r)
+      ((best ≡ some r) × Every (λ x. key x ≤ bound → key r ≤ key x → ⊥) rs) ⊎ (Passed key best r × LatestByKey rs r)
   unfolding latestFrom
   found best [] r e = inl (e, tt)
   found best (x ∷ rs) r e =
@@ -101,7 +101,7 @@ module _ (key : Registration → ℕ) (bound : ℕ) where
       (λ t. ap (λ b. latestFrom key bound b (xs ++ (r ∷ ys))) (t .0) ∙ comes best xs r ys p (h .1) in-time h′)
       (taken-or-left key bound best x)
 
-  latest-exact : (rs : List Registration) (r : Registration) → (latestFrom key bound none rs ≡ some r) ↔ Latest rs r
+  latest-exact : (rs : List Registration) (r : Registration) → (latestFrom key bound none rs ≡ some r) ↔ LatestByKey rs r
   latest-exact rs r = (
     λ e. ⊎-elim (λ s. absurd (Option·none-ne-some r (s .0))) (λ s. s .1) (found none rs r e),
     λ l. rw (l .among) (comes none (l .earlier) r (l .following) tt (l .none-later) (l .in-time) (l .none-as-late)),
