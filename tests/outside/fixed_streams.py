@@ -93,7 +93,8 @@ def midday():
     story += receive(FIRST, 3, whole_day(60), sender=8) + receive(FIRST, 3, whole_day(60), sender=9)
     story += register(SECOND, date=1, sender=3) + receive(SECOND, 2, whole_day(20), sender=3)
     story += register(SECOND, date=2, minute=720, sender=4)
-    story += receive(SECOND, 2, whole_day(30), sender=3) + receive(SECOND, 2, whole_day(30), sender=4)
+    story += receive(SECOND, 2, whole_day(30), sender=3)
+    story += receive(SECOND, 2, whole_day(30), sender=4)
     # A meter that is first registered at 10:00 of date 1 has a sender there, and no category.
     story += register(THIRD, date=1, minute=600, sender=5) + receive(THIRD, 1, [], sender=5)
     story += receive(THIRD, 2, whole_day(80), sender=5) + run(2) + run(3) + look((2, 3))

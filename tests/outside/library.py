@@ -5,11 +5,11 @@ first entry and a page behind its last that nobody may touch: an access past its
 end ends the process, and a write before it is found.
 
 On a store that the calls made, every answer must be the ledger's. On any other,
-receptions, totals, nets, bands and coverage must be answered by what the parts lent
-for them say. Of the other calls only what holds of every store is tested: the refusals for lengths and
-for arguments out of range, what else a call may answer, and what it must leave
-alone. The days that a run leaves are worked out on every store, from those before
-it and the cells before and after it.
+receptions, totals, nets, bands and coverage must be answered as the parts lent for
+them say. Of the other calls only what holds of every store is tested: the refusals
+for lengths and for arguments out of range, what else a call may answer, and what it
+must leave alone. The days that a run leaves are worked out on every store, from those
+before it and the cells before and after it.
 """
 
 import ctypes
@@ -335,7 +335,8 @@ class Store:
             moment, category, sender, status, limit = struct.unpack_from('5Q', meters, 8 * at)
             if status == 0:
                 break
-            registrations.append(Registration(*divmod(moment, DAY), category, sender, status, limit))
+            date, minute = divmod(moment, DAY)
+            registrations.append(Registration(date, minute, category, sender, status, limit))
         return registrations
 
     def reception_kept(self, given):

@@ -237,8 +237,8 @@ class Maker:
             start = rng.randrange(notes.dates)
         date, minute = start, 0
         if start and self.chance(0.4):     # on the date before, often about midday
-            date, minute = start - 1, rng.choice((1, 1439, rng.randint(1, 1439), rng.randint(1, 719),
-                                                  719, 720, 720, 721))
+            date, minute = start - 1, rng.choice((1, 1439, rng.randint(1, 1439),
+                                                  rng.randint(1, 719), 719, 720, 720, 721))
         return Registration(date, minute, rng.randrange(len(notes.categories)),
                             rng.choice((7, 7, 8, 0, 65535)), self.pick({1: 20, 2: 2, 3: 1}),
                             rng.choice((10000, 10000, 600, 5, 0, TOP, TOP - 1)))
@@ -358,8 +358,9 @@ class Maker:
                 date = rng.choice((first - 1, rng.randrange(first))) if first else date
             elif fault == 'sender':
                 # That of another time may be the same one after all.
+                other = rng.choice(notes.registrations.get(mpan, [registration]))
                 sender = rng.choice((sender ^ 1, sender ^ 0x8000, registration.sender,
-                                     rng.choice(notes.registrations.get(mpan, [registration])).sender))
+                                     other.sender))
             elif fault == 'quantity':
                 quantity = rng.choice((3 - quantity % 3, 0, 3, 255))
             elif fault == 'duration':
