@@ -441,7 +441,8 @@ FORMS = [
      '10 ok|13 ok|13 ok|14 no 1001 0|14 ok|14 no 1001 0|14 no 1012 1'),
     # A sender without a category in force: 7, whoever sends.
     (OPEN + f'13 {M} 0000 0258 00 0007 01 00002710 14 0007 {M} 0000 1E 01 00'
-     f'14 0008 {M} 0000 1E 01 00 14 0007 {M} 0001 1E 01 00', '10 ok|13 ok|14 no 7 0|14 no 7 0|14 ok'),
+     f'14 0008 {M} 0000 1E 01 00 14 0007 {M} 0001 1E 01 00',
+     '10 ok|13 ok|14 no 7 0|14 no 7 0|14 ok'),
     # A disconnected meter may send nothing but an empty set.
     (OPEN + f'13 {M} 0000 0000 00 0007 03 00002710 14 0007 {M} 0000 1E 01 00'
      f'14 0007 {M} 0000 1E 01 01 15 001E 01 00000000', '10 ok|13 ok|14 ok|14 no 1009 1'),

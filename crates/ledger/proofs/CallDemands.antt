@@ -19,7 +19,7 @@ use Rattle.ledger.specs.Method.{Category, categoryAt, isSmart, sameFamil
 use Rattle.ledger.specs.Checks.{verdict, firstFailed, anyBelow, recordAt, sameKey, categoryNumber, dayTypeNumber, orElse, sizesValid, openingCheck, callNumber, Registration, RegistrationCall, starts, inForce, appointed, foundIn, notAfterLast, fieldsNumber, knownNumber, meterNumber, registrationCheck, ReceptionCall, endMinute, quality, wattHoursAt, isSenderOf, contentNumber, recordNumberIf, recordNumber, headerNumber, bodyCheck, inForceCheck, receptionCheck, runCheck, readCheck, totalsInRange, cellInRange, bandCheck, listsShort}
 use Rattle.ledger.specs.Ledger.{Opening, categories, dates, periods, category, dayType, Meter, Ledger, accepted, answer, Lengths, settingsShort, metersShort, cellsShort, daysShort, anyShort, meterWith, registrationsOf, isHeld, heldFrom, ledgerRegistrationCheck, ledgerReceptionCheck, isPicture, isRun, ledgerRunCheck, ledgerTotalsCheck, ledgerCoverageCheck, ledgerCellCheck, ledgerBandCheck, ledgerAnswer}
 use Rattle.ledger.specs.Demands.{dateOf, minuteOf, GoodRecord, MayReceive, ReceptionExact, Row, row, rowOf, eachBelow, AllHold, FirstFails, MetersLong, CellsLong, DaysLong, AllLong, GoodSizes, ValidCategory, SameKey, GoodCategory, GoodDayType, openingRows, OpeningExact, FirstBad, OpeningPlaces, KeysDiffer, StartsOn, GoodFields, registrationRows, RegistrationExact, recordRows, underRows, bodyRows, headerRows, ReceptionAnswer, ReceptionPlaces, HasPicture, RunExact, TotalsExact, CoverageExact, CellExact, BandAnswer, SameFamily, FamilyExact}
-use Rattle.ledger.proofs.Choices.{neither}
+use Rattle.ledger.proofs.Choices.{neither, fields-hold}
 use Rattle.ledger.proofs.Lists.{below-suc}
 use Rattle.ledger.proofs.RegistrationDemands.{starts-on, starts-is, starts-there, in-force-exact, appointed-exact}
 use Rattle.ledger.proofs.FirstFailed.{Finds, Decides, AtPlace, all-append, first-left, first-right, all-left, of-each, each-all, first-append, first-each, each-first, at-place, only, first-bad, finds-none, finds-skip, finds-row, decides-row, finds-both, decides-else, decides-each, passed-all, goes-by}
@@ -328,15 +328,8 @@ keys-differ o short ok i k hi hk other same =
 fields-iff : (o : Opening) (a : RegistrationCall) (start : ℕ) →
     ((leb (a .minute) 1439 && ltb (a .category) (categories o) && between 1 3 (a .status) && ltb start (dates o)) ≡ true) ↔ GoodFields o a start
 fields-iff o a start = (
-  λ e. let p = and-eq-true-iff _ _ .0 e in
-      let q = and-eq-true-iff _ _ .0 (p .0) in
-      let r = and-eq-true-iff _ _ .0 (q .0) in
-      record {
-        minute = leb-true _ _ (r .0);
-        category = ltb-true _ _ (r .1);
-        status = between-true 1 3 (a .status) .0 (q .1);
-        starts = ltb-true _ _ (p .1);
-      },
+  λ e. let p = fields-hold (dates o) (categories o) start (a .minute) (a .category) (a .status) e in
+      record { minute = p .minute-is; category = p .category-is; status = p .status-is; starts = p .starts-is },
   λ g. rw (le-leb _ _ (g .minute), lt-ltb _ _ (g .category), between-true 1 3 (a .status) .1 (g .status), lt-ltb _ _ (g .starts)),
 )
 

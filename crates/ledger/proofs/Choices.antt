@@ -53,16 +53,27 @@ pub record FieldsPassed (dates categories start minute category status : ℕ) : 
   pub minute-is : minute ≤ 1439
   pub category-is : category < categories
   pub status-is : (1 ≤ status) × (status ≤ 3)
+  pub starts-is : start < dates
+
+pub fields-hold : (dates categories start minute category status : ℕ) →
+    (leb minute 1439 && ltb category categories && between 1 3 status && ltb start dates) ≡ true → FieldsPassed dates categories start minute category status
+fields-hold dates categories start minute category status all =
+    let both = and-eq-true-iff (leb minute 1439 && ltb category categories && between 1 3 status) (ltb start dates) .0 all in
+    let two = and-eq-true-iff (leb minute 1439 && ltb category categories) (between 1 3 status) .0 (both .0) in
+    let each = and-eq-true-iff (leb minute 1439) (ltb category categories) .0 (two .0) in
+    record {
+      minute-is = leb-true minute 1439 (each .0);
+      category-is = ltb-true category categories (each .1);
+      status-is = between-true 1 3 status .0 (two .1);
+      starts-is = ltb-true start dates (both .1);
+    }
 
 pub fields-passed : (dates categories start minute category status : ℕ) → fieldsNumber dates categories start minute category status ≡ 0 →
     FieldsPassed dates categories start minute category status
 unfolding fieldsNumber
 fields-passed dates categories start minute category status e =
-    let all = not-false _ (check-passed (not (leb minute 1439 && ltb category categories && between 1 3 status && ltb start dates)) 15 0 e .0) in
-    let fields = and-eq-true-iff (leb minute 1439 && ltb category categories && between 1 3 status) (ltb start dates) .0 all .0 in
-    let two = and-eq-true-iff (leb minute 1439 && ltb category categories) (between 1 3 status) .0 fields in
-    let each = and-eq-true-iff (leb minute 1439) (ltb category categories) .0 (two .0) in
-    record { minute-is = leb-true minute 1439 (each .0); category-is = ltb-true category categories (each .1); status-is = between-true 1 3 status .0 (two .1) }
+    fields-hold dates categories start minute category status
+    (not-false _ (check-passed (not (leb minute 1439 && ltb category categories && between 1 3 status && ltb start dates)) 15 0 e .0))
 
 -- a known meter has room for one more registration
 pub known-passed : (start : ℕ) (heldFrom : Bool) (registrations : List Registration) → knownNumber start heldFrom registrations ≡ 0 → length registrations < 8

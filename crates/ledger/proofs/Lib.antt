@@ -11,7 +11,7 @@ pub mod Kept
 pub mod Rows
 pub mod Relation
 pub mod Tallies
-mod Latest
+pub mod Latest
 pub mod Runs
 pub mod Slots
 pub mod Registrations

@@ -12,7 +12,7 @@ use Rattle.ledger.specs.Checks.{Registration, momentOf, startOf, starts,
 use Rattle.ledger.specs.Engine.{Every}
 use Rattle.ledger.specs.Demands.{dateOf, minuteOf, RegisteredAsGiven, StartsOn, StartedBy, StartsNoLater, ByMidday, IsLatest, InForceExact, AppointedExact, SenderWhereInForce}
 use Rattle.ledger.proofs.Chosen.{every-more}
-use Rattle.ledger.proofs.Latest.{Passed, Beats, taken-or-left}
+use Rattle.ledger.proofs.Latest.{bestKey, taken-or-left}
 
 -- ---- date, minute, start
 
@@ -35,18 +35,6 @@ starts-there r = cases (eqb (minuteOf r) 0) (λ q. rw q (inl (eqb-true _ 0 q, re
 -- ---- the search, by any key and bound
 
 module _ (key : Registration → ℕ) (bound : ℕ) where
-  passed-on : (best : Option Registration) (x r : Registration) → Passed key best x → key x ≤ key r → Passed key best r
-  passed-on none x r p h = tt
-  passed-on (some b) x r p h = omega arith
-
-  beaten : (best : Option Registration) (x r : Registration) → Beats key best x → Passed key best r → key x ≤ key r
-  beaten none x r b p = absurd b
-  beaten (some c) x r b p = omega arith
-
-  beats-not : (best : Option Registration) (x : Registration) → Beats key best x → Passed key best x → ⊥
-  beats-not none x b p = b
-  beats-not (some c) x b p = omega arith
-
   abbrev LatestByKey : List Registration → Registration → Type 0
   LatestByKey rs r = IsLatest (λ x. key x ≤ bound) (λ x y. key x ≤ key y) rs r
 
@@ -63,7 +51,7 @@ module _ (key : Registration → ℕ) (bound : ℕ) where
 
   -- the one found was the best already, or it is the latest of the list
   found : (best : Option Registration) (rs : List Registration) (r : Registration) → latestFrom key bound best rs ≡ some r →
-      ((best ≡ some r) × Every (λ x. key x ≤ bound → key r ≤ key x → ⊥) rs) ⊎ (Passed key best r × LatestByKey rs r)
+      ((best ≡ some r) × Every (λ x. key x ≤ bound → key r ≤ key x → ⊥) rs) ⊎ ((bestKey key best ≤ key r) × LatestByKey rs r)
   unfolding latestFrom
   found best [] r e = inl (e, tt)
   found best (x ∷ rs) r e =
@@ -77,12 +65,12 @@ module _ (key : Registration → ℕ) (bound : ℕ) where
         rw same at (t .2),
         record { earlier = []; following = rs; among = rw same; in-time = rw same at (t .1); none-later = tt; none-as-late = s .1 },
       ))
-      (λ s. let below : key x ≤ key r = rw (t .0) at (s .0) in inr (passed-on best x r (t .2) below, before x rs r (λ h. below) (s .1)))
+      (λ s. let below : key x ≤ key r = rw (t .0) at (s .0) in inr (omega (arith, t .2, below), before x rs r (λ h. below) (s .1)))
       rest)
       (λ t.
       ⊎-elim
-      (λ s. let is : best ≡ some r = sym (t .0) ∙ s .0 in inl (is, ((λ h w. beats-not (some r) x (rw is at (t .1 h)) w), s .1)))
-      (λ s. let p = rw (t .0) at (s .0) in inr (p, before x rs r (λ h. beaten best x r (t .1 h) p) (s .1)))
+      (λ s. let is : best ≡ some r = sym (t .0) ∙ s .0 in inl (is, ((λ h w. let z : key x < key r = rw is at (t .1 h) in omega arith), s .1)))
+      (λ s. let p : bestKey key best ≤ key r = rw (t .0) at (s .0) in inr (p, before x rs r (λ h. let z = t .1 h in omega arith) (s .1)))
       rest)
       (taken-or-left key bound best x)
 
@@ -91,10 +79,10 @@ module _ (key : Registration → ℕ) (bound : ℕ) where
   stays r [] h = refl
   stays r (x ∷ rs) h = ⊎-elim (λ t. absurd (h .0 (t .1) (t .2))) (λ t. rw (t .0) (stays r rs (h .1))) (taken-or-left key bound (some r) x)
 
-  comes : (best : Option Registration) (xs : List Registration) (r : Registration) (ys : List Registration) → Passed key best r → Every (λ x. key x ≤ bound → key x ≤ key r) xs →
+  comes : (best : Option Registration) (xs : List Registration) (r : Registration) (ys : List Registration) → bestKey key best ≤ key r → Every (λ x. key x ≤ bound → key x ≤ key r) xs →
       key r ≤ bound → Every (λ x. key x ≤ bound → key r ≤ key x → ⊥) ys → latestFrom key bound best (xs ++ (r ∷ ys)) ≡ some r
   unfolding latestFrom
-  comes best [] r ys p h in-time h′ = ⊎-elim (λ t. ap (λ b. latestFrom key bound b ys) (t .0) ∙ stays r ys h′) (λ t. absurd (beats-not best r (t .1 in-time) p)) (taken-or-left key bound best r)
+  comes best [] r ys p h in-time h′ = ⊎-elim (λ t. ap (λ b. latestFrom key bound b ys) (t .0) ∙ stays r ys h′) (λ t. absurd (let z = t .1 in-time in omega arith)) (taken-or-left key bound best r)
   comes best (x ∷ xs) r ys p h in-time h′ =
       ⊎-elim
       (λ t. ap (λ b. latestFrom key bound b (xs ++ (r ∷ ys))) (t .0) ∙ comes (some x) xs r ys (h .0 (t .1)) (h .1) in-time h′)
@@ -104,7 +92,7 @@ module _ (key : Registration → ℕ) (bound : ℕ) where
   latest-exact : (rs : List Registration) (r : Registration) → (latestFrom key bound none rs ≡ some r) ↔ LatestByKey rs r
   latest-exact rs r = (
     λ e. ⊎-elim (λ s. absurd (Option·none-ne-some r (s .0))) (λ s. s .1) (found none rs r e),
-    λ l. rw (l .among) (comes none (l .earlier) r (l .following) tt (l .none-later) (l .in-time) (l .none-as-late)),
+    λ l. rw (l .among) (comes none (l .earlier) r (l .following) (omega arith) (l .none-later) (l .in-time) (l .none-as-late)),
   )
 
 -- ---- in words
@@ -176,12 +164,12 @@ module _ (key key′ : Registration → ℕ) (bound bound′ : ℕ) (in-time : (
   some-step best best′ x both s =
       ⊎-elim
       (λ t. rw (t .0) tt)
-      (λ t. rw (t .0) (⊎-elim (λ w. beaten-some best′ x (t .1 (in-time x (w .1)))) (λ w. both (rw (w .0) at s)) (taken-or-left key bound best x)))
+      (λ t. rw (t .0) (⊎-elim (λ w. beaten-some best′ (key′ x) (t .1 (in-time x (w .1)))) (λ w. both (rw (w .0) at s)) (taken-or-left key bound best x)))
       (taken-or-left key′ bound′ best′ x)
     where
-      beaten-some : (best : Option Registration) (x : Registration) → Beats key′ best x → Some best
-      beaten-some none x b = b
-      beaten-some (some b) x _ = tt
+      beaten-some : (best : Option Registration) (n : ℕ) → n < bestKey key′ best → Some best
+      beaten-some none n h = omega arith
+      beaten-some (some b) n h = tt
 
   some-too : (best best′ : Option Registration) (rs : List Registration) → (Some best → Some best′) →
       Some (latestFrom key bound best rs) → Some (latestFrom key′ bound′ best′ rs)

@@ -145,8 +145,8 @@ FirstFails (r ∷ rows) n p = ((r .holds → ⊥) × (n ≡ r .number) × (p ≡
 abbrev pub GoesBy : List Row → Answer → Answer → Type 0
 GoesBy rows given heard = ((heard ≡ given) ↔ AllHold rows) × ((n p : ℕ) → (heard ≡ refused n p) ↔ FirstFails rows n p)
 
--- 1: each part lent has its least length; registration and reception are lent settings, meters and readings, reads settings and cells, the
--- coverage read settings and days, opening and run all five
+-- 1: each part lent has its least length; registration and reception are lent settings, meters and readings, the cell read and the fill
+-- settings and cells, the reads of totals and coverage and the band search settings and days, the net read both, opening and run all five
 abbrev pub MetersLong : Opening → Lengths → Type 0
 MetersLong o n = (leastLengths o .settings ≤ n .settings) × (leastLengths o .meters ≤ n .meters) × (leastLengths o .readings ≤ n .readings)
 

@@ -7,8 +7,9 @@ use native.Mathlib.Omega.{arith}
 use mathlib.Core.Option.{none}
 use Rattle.ledger.specs.Checks.{latestFrom}
 use Rattle.ledger.specs.Store.{usedFrom, registrationsAt}
+use Rattle.ledger.proofs.Latest.{bestKey}
 use Rattle.store.specs.Meters.{keyBy, indexed}
-use Rattle.store.proofs.Laws.{used-all, used-stop, used-more, bestKey, indexed-at, turn-taken, turn-left}
+use Rattle.store.proofs.Laws.{used-all, used-stop, used-more, indexed-at, turn-taken, turn-left}
 use Rattle.store.proofs.meters.latest_index.Statement.{statement}
 use Rattle.store.proofs.meters.latest_index.Tie as tie
 
