@@ -24,7 +24,7 @@ int main(void) {
     for (uint64_t date = 0; date < 2; date++)
         show("run", jihoweka_run(STORE, LEND(cells), LEND(days), date, LEND(fields)), 1);
     show("totals", jihoweka_read_totals(LEND(settings), LEND(days), 1, 0, LEND(fields)), 11);
-    show("cell", jihoweka_read_cell(LEND(settings), LEND(cells), 0, 1, 3, LEND(fields)), 4);
+    show("cell", jihoweka_read_cell(LEND(settings), LEND(cells), 0, 1, 3, LEND(fields)), 5);
     show("band", jihoweka_search_band(LEND(settings), LEND(days), 0, 1, 750, 750, LEND(dates),
                                       LEND(fields)), 2);
 }

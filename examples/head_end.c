@@ -216,8 +216,9 @@ static void print_cell(const struct store *s, uint64_t date, uint64_t category, 
     printf("%c", (char)fields[JIHOWEKA_FLAG]);
     print_kwh(" ", fields[JIHOWEKA_VALUE]);
     printf(" %" PRId64, fields[JIHOWEKA_COUNT]);
-    if (fields[JIHOWEKA_ORIGIN] == JIHOWEKA_NO_ORIGIN) puts(" -");
-    else printf(" %" PRId64 "\n", fields[JIHOWEKA_ORIGIN]);
+    if (fields[JIHOWEKA_ORIGIN] == JIHOWEKA_NO_ORIGIN) printf(" -");
+    else printf(" %" PRId64, fields[JIHOWEKA_ORIGIN]);
+    printf(" %" PRId64 "\n", fields[JIHOWEKA_REMAINDER]);
 }
 
 /* Eight periods to a line; a star says that a shape in the number is missing. */

@@ -91,7 +91,7 @@ mod c {
 
 // ---- the wrapper
 
-const LAYOUT: u64 = 4;
+const LAYOUT: u64 = 5;
 const FIELDS: usize = 11;
 const NO_ORIGIN: i64 = 65535;
 
@@ -124,6 +124,7 @@ struct Cell {
     value: i64,
     count: i64,
     origin: Option<i64>,
+    remainder: i64,
 }
 
 struct Net {
@@ -277,6 +278,7 @@ impl Store {
             value: fields[1],
             count: fields[2],
             origin: known(fields[3]),
+            remainder: fields[4],
         })
     }
 
@@ -535,7 +537,8 @@ fn print_totals(store: &Store, date: u64, category: u64) {
 fn print_cell(store: &Store, date: u64, category: u64, period: u64) {
     let asked = format!("cell of date {date}, category {category}, period {period}");
     say(asked, store.cell(date, category, period), |cell| {
-        format!("{} {} {} {}", cell.flag, Kwh(cell.value), cell.count, date_or_dash(cell.origin))
+        let origin = date_or_dash(cell.origin);
+        format!("{} {} {} {origin} {}", cell.flag, Kwh(cell.value), cell.count, cell.remainder)
     });
 }
 

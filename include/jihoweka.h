@@ -94,7 +94,7 @@ enum jihoweka_number {
 };
 
 enum {
-    JIHOWEKA_LAYOUT = 4,              /* of the parts; another one has other entries, also where all
+    JIHOWEKA_LAYOUT = 5,              /* of the parts; another one has other entries, also where all
                                          lengths are the same */
     JIHOWEKA_FIELDS = 11,             /* entries that `fields` has at least */
     JIHOWEKA_CATEGORY_BYTES = 8,      /* of a category record */
@@ -111,7 +111,9 @@ enum {
     JIHOWEKA_TOT, JIHOWEKA_OFF, JIHOWEKA_PEAK, JIHOWEKA_TOT7, JIHOWEKA_OFF7, JIHOWEKA_PEAK7,
     JIHOWEKA_DAYS7, JIHOWEKA_ANN, JIHOWEKA_DAYS, JIHOWEKA_FRESH, JIHOWEKA_BLANK
 };
-enum { JIHOWEKA_FLAG, JIHOWEKA_VALUE, JIHOWEKA_COUNT, JIHOWEKA_ORIGIN };
+enum {
+    JIHOWEKA_FLAG, JIHOWEKA_VALUE, JIHOWEKA_COUNT, JIHOWEKA_ORIGIN, JIHOWEKA_REMAINDER
+};
 enum { JIHOWEKA_NET_TOT, JIHOWEKA_NET_TOT7 };
 enum { JIHOWEKA_WRITTEN, JIHOWEKA_FOUND };
 enum {
@@ -236,7 +238,9 @@ uint64_t jihoweka_read_totals(
 /* A cell of a run date: an average in whole Wh, halves up.
    Results: flag ('A' over the category's readings, 'D' over those of its family, 'E' taken over
    from an earlier date, 'N' none), value, count of the readings in it, origin, the date that they
-   are of (JIHOWEKA_NO_ORIGIN for 'N'). Checks: 1, 9, 15, 14. */
+   are of (JIHOWEKA_NO_ORIGIN for 'N'), remainder, what rounding dropped in whole Wh with its sign:
+   value x count + remainder is the sum of those readings, and -count <= 2 x remainder < count (0
+   for 'N'). Checks: 1, 9, 15, 14. */
 uint64_t jihoweka_read_cell(
     const uint8_t *settings, size_t settings_length,
     const uint64_t *cells, size_t cells_length,

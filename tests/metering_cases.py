@@ -77,7 +77,8 @@ class Cases:
         self.add("m", [number], ["mpan", number], yes(mpan_good(number)))
 
     def average(self, total, count):
-        self.add("a", [total, count], ["average", total, count], rounded(Fraction(total, count)))
+        value = rounded(Fraction(total, count))
+        self.add("a", [total, count], ["average", total, count], value, total - value * count)
 
     def annual(self, total, days):
         figure = total if days == 365 else rounded(Fraction(total * 365, days))

@@ -146,9 +146,10 @@ class Caller:
 
     def strange(self, count):
         """Entries of all kinds: none, small, readings, cells, totals, MPANs, anything."""
-        rng, flag = self.rng, self.rng.randrange(8)
-        kinds = [0, 0, 0, 1, 2, 3, 2 ** 32 + 500, 2 ** 33, 500 * 2 ** 32 + 65536 + 8 + flag,
-                 2 ** 48 + 500, 2 ** 64 - 8 + flag, *self.mpans,
+        rng, flag = self.rng, self.rng.randrange(4)
+        kinds = [0, 0, 0, 1, 2, 3, 2 ** 31, 2 ** 32 + 500, 2 ** 33,
+                 500 * 2 ** 32 + 513 * 2 ** 22 + 4096 + 4 + flag,
+                 2 ** 48 + 500, 2 ** 64 - 4 + flag, *self.mpans,
                  *(rng.getrandbits(64) for _ in range(4))]
         return struct.pack(f'{count}Q', *rng.choices(kinds, k=count))
 

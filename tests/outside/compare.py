@@ -34,6 +34,7 @@ NUMBERS = {'10': [1, 3, 4, 5],
            '17': [1, 9, 14, 15],
            '18': [1, 9, 14, 15]}
 FLAGS = 'ADEN'
+SIGNS = ('above 0', 'below 0')
 MINUTES = (719, 720, 721)                  # of registrations
 CAUSES = ('too many 11', 'too many 12', 'unknown byte', '15 not due',
           'another byte where 15 due', 'end where 15 due', 'cut operand')
@@ -43,6 +44,7 @@ def reachable(profile):
     """All that a test must have met at least once."""
     keys = [(command, answer) for command in COMMANDS for answer in ('ok', *NUMBERS[command])]
     keys += [('flag', flag) for flag in FLAGS]
+    keys += [('remainder', sign) for sign in SIGNS]
     keys += [('minute', minute) for minute in MINUTES]
     keys += [('bad', cause) for cause in CAUSES]
     if profile == 'wide':
@@ -74,6 +76,8 @@ def reached_by(data, expected):
                 reached['minute', minute] += minute in MINUTES
             elif words[0] == '18':
                 reached['flag', words[2]] += 1
+                if words[6] != '0':
+                    reached['remainder', SIGNS[words[6].startswith('-')]] += 1
                 date = int.from_bytes(data[answer.begin + 1:answer.begin + 3], 'big')
                 if words[2] == 'E' and date - int(words[5]) > 100:
                     reached['copy', 'over 100 dates'] += 1
@@ -145,7 +149,7 @@ def print_table(reached):
     for answer in ('ok', *sorted({n for key, n in reached if key in COMMANDS and n != 'ok'})):
         counts = [reached[command, answer] or '' for command in COMMANDS]
         print(f'{answer:<6}' + ''.join(f'{count:>9}' for count in counts))
-    for kind in ('flag', 'minute', 'bad', 'ANN', 'copy'):
+    for kind in ('flag', 'remainder', 'minute', 'bad', 'ANN', 'copy'):
         for (key, name), count in sorted(reached.items(), key=str):
             if key == kind:
                 print(f'{kind} {name}: {count}')

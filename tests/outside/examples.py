@@ -143,8 +143,8 @@ class Example:
                     self.ledger.totals(date, category), words)
 
     def cell(self, date, category, period):
-        def words(flag, value, count, origin):
-            return f'{flag} {kwh(value)} {count} {date_or_dash(origin)}'
+        def words(flag, value, count, origin, remainder):
+            return f'{flag} {kwh(value)} {count} {date_or_dash(origin)} {remainder}'
         return line(f'cell of date {date}, category {category}, period {period}',
                     self.ledger.cell(date, category, period), words)
 

@@ -4,8 +4,8 @@
 
 Writes NAME/stdin and NAME/stdout into DIRECTORY: for the programs shaper (the
 paper's worked example), shaper_wide and net_test, which writes the nets of its
-store behind the answers; and late_day, midday and refusals, three more for shaper.
-Answers and nets are the plain ledger's.
+store behind the answers; and late_day, midday, refusals and remainder, four more for
+shaper. Answers and nets are the plain ledger's.
 """
 
 import pathlib
@@ -100,6 +100,27 @@ def midday():
     story += receive(THIRD, 2, whole_day(80), sender=5) + run(2) + run(3) + look((2, 3))
     # The same start as 10:00 of date 1; and a start past the last date.
     story += register(THIRD, date=2, sender=6) + register(FOURTH, date=3, minute=540)
+    return story
+
+
+def remainder():
+    """What rounding dropped: where that alone differs, a cell moves, and its copies with it."""
+    regions = [(1, group, 1, 1, 1, 0, 0, 1) for group in (1, 2)]
+
+    def sent(mpan, *values):
+        return receive(mpan, 0, [(30 * period, 1, wh) for period, wh in enumerate(values, 1)])
+
+    def shown():
+        return b''.join(cell(date, category) for date in (0, 1) for category in (0, 1))
+
+    story = open_store(regions, [1, 1], meters=3) + b''.join(map(register, (FIRST, SECOND, THIRD)))
+    # 10 + 11 + 13 = 3 x 11 + 1 in period 1, 5 + 6 = 2 x 6 - 1 in period 2.
+    story += sent(FIRST, 10, 5) + sent(SECOND, 11, 6) + sent(THIRD, 13) + run(0) + run(1)
+    story += shown() + cell(0, 0, 2) + cell(0, 0, 3)
+    # 12 in place of 13: the same average of three, and four cells move.
+    story += sent(THIRD, 12) + run(0) + shown()
+    # Only two: 21 = 2 x 11 - 1.
+    story += sent(THIRD) + run(0) + shown() + run(0)
     return story
 
 
@@ -222,6 +243,7 @@ STREAMS = {'shaper': (INPUT, PROFILES['small']),
            'late_day': (late_day(), PROFILES['small']),
            'midday': (midday(), PROFILES['small']),
            'refusals': (refusals(), PROFILES['small']),
+           'remainder': (remainder(), PROFILES['small']),
            'shaper_wide': (wide(), PROFILES['wide']),
            'net_test': (net_store(), Limits(12, 12, 12 * 48, 12))}
 

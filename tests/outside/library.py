@@ -5,21 +5,22 @@ first entry and a page behind its last that nobody may touch: an access past its
 end ends the process, and a write before it is found.
 
 On a store that the calls made, every answer must be the ledger's. On any other,
-receptions, totals, nets, bands and coverage must be answered as the parts lent for
-them say. Of the other calls only what holds of every store is tested: the refusals
+receptions, totals, cells, nets, bands and coverage must be answered as the parts lent
+for them say. Of the other calls only what holds of every store is tested: the refusals
 for lengths and for arguments out of range, what else a call may answer, and what it
-must leave alone. The days that a run leaves are worked out on every store, from those
-before it and the cells before and after it.
+must leave alone. The moved count of a run and the days that it leaves are worked out on
+every store, from what there was before it and the cells before and after it.
 """
 
 import ctypes
 import mmap
 import struct
 import sys
+from operator import ne
 from typing import NamedTuple
 
-from ledger import (DAY, EXPORT, IMPORT, SMART, WINDOWS, Category, Ledger, Registration, mpan_good,
-                    no, opening, rounded, window_periods)
+from ledger import (BLANK, DAY, EXPORT, IMPORT, SMART, WINDOWS, Category, Cell, Ledger,
+                    Registration, mpan_good, no, opening, rounded, window_periods)
 
 FIELDS = 11                                # entries that `fields` has at least
 HEADER = '>4H'                             # of the settings: duration, meters, categories, dates
@@ -33,6 +34,7 @@ PARTS = ('settings', 'meters', 'readings', 'cells', 'days')
 ROWS = 4                                   # of a category in days: day, sums, TOT and OFF
 WEEK, YEAR = 7, 365                        # dates that are summed
 RUN = 2 ** 48                              # a run date, in an entry of day or TOT
+BLANK_ENTRY = 2 ** 31                      # of a blank cell
 BITS = {'sender': 16, 'limit': 32, 'advance': 32}      # of a number; all others have 64
 
 
@@ -71,7 +73,7 @@ CALLS = {
                 1, 1, 9),
     'totals': call('jihoweka_read_totals', 'settings days', '', 'date category', '', 11,
                    1, 9, 15, 14),
-    'cell': call('jihoweka_read_cell', 'settings cells', '', 'date category period', '', 4,
+    'cell': call('jihoweka_read_cell', 'settings cells', '', 'date category period', '', 5,
                  1, 9, 15, 14),
     'net': call('jihoweka_read_net', 'settings cells days', '', 'date category all_groups',
                 'numbers marks', 2, 1, 9, 15, 26, 14),
@@ -218,19 +220,27 @@ def short(given, sizes):
     return any(len(given[array]) < WIDTHS[array] * least[array] for array in least.keys() & given)
 
 
+def cell_of(entry):
+    """The cell that an entry reads as, whatever made it; flag 0 has no fields but the value."""
+    flag, value = 'NADE'[entry % 4], entry >> 32
+    if flag == 'N':
+        return BLANK._replace(value=value)
+    count, origin, remainder = (entry >> shift & 1023 for shift in (2, 12, 22))
+    return Cell(flag, value, count + 1, origin, remainder - 512)
+
+
 def day_of(cells):
-    """The day of a category, from its entries in a date's row."""
-    flags = [cell % 8 for cell in cells]
-    shaped = [cell for cell in cells if cell % 8 in (1, 2, 3)]
-    oldest = min((cell >> 16 & 65535 for cell in shaped), default=65535)
-    fresh, blank = flags.count(1) + flags.count(2), len(cells) - len(shaped)
+    """The day of a category, from its cells on a date."""
+    flags = [cell.flag for cell in cells]
+    oldest = min(cell.origin for cell in cells)            # N has the highest
+    fresh, blank = flags.count('A') + flags.count('D'), flags.count('N')
     return fresh + (blank << 16) + (oldest << 32) + RUN
 
 
 def tot_and_off(cells, window, duration):
     """The entries of TOT and OFF for the same; a window that there is not has no periods."""
     off_peak = window_periods(window, duration) if window in WINDOWS else ()
-    return sum(cell >> 32 for cell in cells) + RUN, sum(cells[j - 1] >> 32 for j in off_peak)
+    return sum(cell.value for cell in cells) + RUN, sum(cells[j - 1].value for j in off_peak)
 
 
 def summed(row, date, length):
@@ -262,6 +272,7 @@ class Store:
             raise Difference(f'expected {expected}\ncame     {came}')
         self.test_unchanged(name, given, after, came)
         if number == 0 and name == 'run':
+            self.test_moved(given, after, came)
             self.test_days(given, after)
         if number == 0:
             self.parts.update((part, after[part]) for part in CALLS[name].parts)
@@ -378,6 +389,20 @@ class Store:
             return no(14)
         return ('ok', *(sums >> shift & 65535 for shift in (0, 16, 32, 48)), day >> 32 & 65535)
 
+    def cells_kept(self, given):
+        """The cells of the date, or None where the first entry says that it is not run."""
+        width = self.sizes.categories * self.sizes.periods
+        row = struct.unpack_from(f'{width}Q', given['cells'],
+                                 WIDTHS['cells'] * width * given['date'])
+        return list(map(cell_of, row)) if row[0] else None
+
+    def cell_kept(self, given):
+        cells = self.cells_kept(given)
+        if cells is None:
+            return no(14)
+        flag, *rest = cells[self.sizes.periods * given['category'] + given['period'] - 1]
+        return 'ok', ord(flag), *rest
+
     def net_kept(self, given):
         """The date's periods from the cells, the week from the days."""
         date, periods, kept = given['date'], self.sizes.periods, self.opening_kept(given)
@@ -386,16 +411,15 @@ class Store:
         exports = kept.side(asked, EXPORT, all_groups)
         if asked.segment != SMART or asked.quantity != IMPORT or not exports:
             return no(26)
-        width = self.sizes.categories * periods
-        row = struct.unpack_from(f'{width}Q', given['cells'], WIDTHS['cells'] * width * date)
-        if row[0] % 8 == 0:
+        cells = self.cells_kept(given)
+        if cells is None:
             return no(14)
         nets, marks, tot7 = [0] * periods, [0] * periods, 0
         for category in imports + exports:
             sign = 1 if category in imports else -1
-            for j, cell in enumerate(row[periods * category:periods * (category + 1)]):
-                nets[j] += sign * (cell >> 32)
-                marks[j] |= cell % 8 not in (1, 2, 3)
+            for j, cell in enumerate(cells[periods * category:periods * (category + 1)]):
+                nets[j] += sign * cell.value
+                marks[j] |= cell.flag == 'N'
             _, _, tot, _ = self.category_rows(given, category)
             tot7 += sign * (summed(tot, date, WEEK) % RUN)
         return 'ok', sum(nets), tot7, nets, marks
@@ -425,7 +449,7 @@ class Store:
 
     def test_possible(self, name, given, came):
         """What holds of all other answers on any store."""
-        if name in ('reception', 'totals', 'net', 'band', 'coverage'):
+        if name in ('reception', 'totals', 'cell', 'net', 'band', 'coverage'):
             due = getattr(self, f'{name}_kept')(given)
             if came != due:
                 raise Difference(f'the parts say {due}\ncame          {came}')
@@ -436,8 +460,6 @@ class Store:
             places = range(records + 1)
         possible = (number in (0, *CALLS[name].checks) and number not in FOR_ARGUMENTS
                     and place in places)
-        if number == 0 and name == 'cell':
-            possible &= came[1] in map(ord, 'ADEN')
         if number == 0 and 'advance' in given:
             marked = [wh for wh, mark in zip(came[1], given['missing']) if mark]
             possible &= sum(marked) == sum(came[1]) == given['advance']
@@ -466,6 +488,18 @@ class Store:
                 raise Difference(f'came {came}, and entry {at} of {array} was changed '
                                  f'from {before[0]} to {now[0]}')
 
+    def test_moved(self, given, after, came):
+        """Whether a run counted the entries that it changed; on a date not run they are blank."""
+        sizes = self.sizes
+        width = sizes.categories * sizes.periods
+        first = given['date'] * width
+        old, new = (list(struct.unpack_from(f"{sizes.least()['cells']}Q", cells))
+                    for cells in (given['cells'], after['cells']))
+        old[first:first + width] = [entry or BLANK_ENTRY for entry in old[first:first + width]]
+        moved = sum(map(ne, old, new))
+        if came != ('ok', moved):
+            raise Difference(f'{moved} entries changed, and {came} came')
+
     def rows_kept(self, given, after):
         """Date and new row of all whose days a run puts, as the cells show them.
 
@@ -478,12 +512,12 @@ class Store:
             old, new = (cells[width * date:width * (date + 1)]
                         for cells in (given['cells'], after['cells']))
             if date > run:
-                is_run = struct.unpack_from('Q', old)[0] % 8 != 0
+                is_run = struct.unpack_from('Q', old)[0] != 0
                 if not is_run or day_types[date] != day_types[run]:
                     continue
                 if old == new:
                     return
-            yield date, [cell for cell, in struct.iter_unpack('Q', new)]
+            yield date, [cell_of(entry) for entry, in struct.iter_unpack('Q', new)]
 
     def test_days(self, given, after):
         """Whether a run put day, TOT and OFF, and raised the sums by what changed, modulo 2^64."""

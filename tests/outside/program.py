@@ -99,8 +99,9 @@ class Program:
         elif byte == 0x18:
             answer = self.ask(Ledger.cell, *self.numbers(2, 1, 1))
             if answer[0] == 'ok':
-                flag, value, count, origin = answer[1:]
-                answer = 'ok', flag, kwh(value), count, '-' if origin == 65535 else origin
+                flag, value, count, origin, remainder = answer[1:]
+                origin = '-' if origin == 65535 else origin
+                answer = 'ok', flag, kwh(value), count, origin, remainder
         else:
             raise Bad('15 not due' if byte == 0x15 else 'unknown byte')
         return ' '.join(map(str, (f'{byte:02X}', *answer)))

@@ -87,7 +87,7 @@ class Doubled(ledger.Ledger):
                 for period in range(1, self.periods + 1):
                     key = date, number, period
                     if run is None:
-                        cells[key] = 'N', 0, 0, 65535
+                        cells[key] = 'N', 0, 0, 65535, 0
                         continue
                     here = [(c, wh) for c, p, wh in self.readings(run, date) if p == period]
                     own = [wh for c, wh in here if c == number]
@@ -95,13 +95,13 @@ class Doubled(ledger.Ledger):
                              if self.categories[c].segment == category.segment == 1
                              and self.categories[c][2:5] == category[2:5]]
                     if len(own) >= 1 and len(own) >= category.de_minimis:
-                        cells[key] = 'A', average(own), len(own), date
+                        cells[key] = 'A', average(own), len(own), date, dropped(own)
                     elif len(alike) >= 1 and len(alike) >= category.de_minimis:
-                        cells[key] = 'D', average(alike), len(alike), date
+                        cells[key] = 'D', average(alike), len(alike), date, dropped(alike)
                     elif earlier and cells[earlier[-1], number, period][0] != 'N':
                         cells[key] = 'E', *cells[earlier[-1], number, period][1:]
                     else:
-                        cells[key] = 'N', 0, 0, 65535
+                        cells[key] = 'N', 0, 0, 65535, 0
         return cells
 
     def run(self, date):
@@ -232,7 +232,7 @@ class Doubled(ledger.Ledger):
             if age not in range(365) or ('run', d) not in self.calls:
                 continue
             for period in range(1, self.periods + 1):
-                flag, value, count, origin = cells[d, category, period]
+                flag, _, _, origin, _ = cells[d, category, period]
                 fresh365 += flag in 'AD'
                 blank365 += flag == 'N'
                 fresh7 += flag in 'AD' and age < 7
@@ -253,6 +253,11 @@ def half_up(fraction):
 
 def average(readings):
     return half_up(Fraction(sum(readings), len(readings)))
+
+
+def dropped(readings):
+    """How far the readings are from their average, all together."""
+    return sum(wh - average(readings) for wh in readings)
 
 
 class Doubling(program.Program):
@@ -380,8 +385,8 @@ def check_twice(streams, commands, stores):
     return Doubled.checked
 
 
-# Input in hex and the output it must have; D is a good category, M a good MPAN.
-D, M = '11 0101010101010000', '000000E8D4A51003'
+# Input in hex and the output it must have; D is a good category, M and M2 are good MPANs.
+D, M, M2 = '11 0101010101010000', '000000E8D4A51003', '000000EB28B0F400'
 OPEN = f'{D} 1201 1201 10 1E 0001'
 FORMS = [
     ('', ''),
@@ -423,7 +428,16 @@ FORMS = [
      '10 ok|16 ok 0|10 no 3 0|17 ok 0.000 0.000 0.000 0.000 0.000 0.000 1 0.000 1 0 48'),
     (OPEN + '160000' + OPEN + '170000 00', '10 ok|16 ok 0|10 ok|17 no 14 0'),
     (OPEN + '160000 180000 00 01 180000 00 00 180000 00 31 180001 00 01 180002 01 00',
-     '10 ok|16 ok 0|18 ok N 0.000 0 -|18 no 15 0|18 no 15 0|18 no 14 0|18 no 9 0'),
+     '10 ok|16 ok 0|18 ok N 0.000 0 - 0|18 no 15 0|18 no 15 0|18 no 14 0|18 no 9 0'),
+    # 1 and 2 Wh have the average 2 and drop -1; 1 and 3 have it too and drop nothing: the cell of
+    # the date and its copy move.
+    (D + f'1201 1201 10 1E 0002 13 {M} 0000 0000 00 0007 01 00002710'
+     f'13 {M2} 0000 0000 00 0007 01 00002710'
+     f'14 0007 {M} 0000 1E 01 01 15 001E 01 00000001 14 0007 {M2} 0000 1E 01 01 15 001E 01 00000002'
+     '160000 160001 180000 00 01 180001 00 01'
+     f'14 0007 {M2} 0000 1E 01 01 15 001E 01 00000003 160000 180000 00 01 180001 00 01',
+     '10 ok|13 ok|13 ok|14 ok|14 ok|16 ok 1|16 ok 1|18 ok A 0.002 2 0 -1|18 ok E 0.002 2 0 -1|'
+     '14 ok|16 ok 2|18 ok A 0.002 2 0 0|18 ok E 0.002 2 0 0'),
     # Starts: minute 5 of date 0 and minute 0 of date 1 are one; date T-1 has none later.
     (OPEN + f'13 {M} 0000 0005 00 0007 01 00002710 13 {M} 0001 0000 00 0007 01 00002710'
      f'13 {M} 0001 0001 00 0007 01 00002710 14 0007 {M} 0000 1E 01 00',
@@ -456,14 +470,14 @@ FORMS = [
 # Name, the ledger's text, and what a slip makes of it.
 SLIPS = [
     ('averages regional averages', 'wh) >= least:\n                        row[period - 1] = '
-     'Cell(flag, rounded(sum(wh), len(wh)), len(wh), date)',
+     'averaged(flag, wh, date)',
      'wh) >= least:\n                        means = wh if flag == "A" else '
      '[rounded(sum(r[period]), len(r[period])) for c, r in own.items() if period in r '
      'and self.categories[c].family == category.family]\n'
      '                        row[period - 1] = '
-     'Cell(flag, rounded(sum(means), len(means)), len(wh), date)'),
+     'averaged(flag, means, date)._replace(count=len(wh))'),
     ('dates a copied cell by its copy', 'copied(earlier[number])',
-     '[c if c.flag == "N" else Cell("E", c.value, c.count, date) for c in earlier[number]]'),
+     '[c if c.flag == "N" else c._replace(flag="E", origin=date) for c in earlier[number]]'),
     ('merges a new set with the old', '[date] = readings',
      '[date] = {**self.held.get(mpan, {}).get(date, {}), **readings}'),
     ('leaves later copies after a rerun', 'self.cells = self.worked_out()',
@@ -488,6 +502,24 @@ SLIPS = [
     ('leaves the own readings out of the family', "len(wh) >= least:",
      "len(wh) >= least and not (flag == 'D' and number in own and period in own[number]):"),
     ('carries N as E', "cell.flag in 'EN'", "cell.flag in 'E'"),
+    ('turns the sign of the remainder', 'sum(wh) - value * count)', 'value * count - sum(wh))'),
+    ('has no remainders below zero', 'sum(wh) - value * count)', 'max(0, sum(wh) - value * count))'),
+    ('takes what is left of the division', 'sum(wh) - value * count)', 'sum(wh) % count)'),
+    ('drops the remainder of a copy', "_replace(flag='E')", "_replace(flag='E', remainder=0)"),
+    ('does not see a moved remainder', 'sum(map(ne, old, new))',
+     'sum(a[:4] != b[:4] for a, b in zip(old, new))'),
+    ("takes a family's remainder by the own count", 'row[period - 1] = averaged(flag, wh, date)\n',
+     'made = row[period - 1] = averaged(flag, wh, date)\n'
+     '                        if flag == "D":\n'
+     '                            mine = len(own.get(number, {}).get(period, ()))\n'
+     '                            row[period - 1] = made._replace('
+     'remainder=sum(wh) - made.value * mine)\n'),
+    ('takes the own remainder for a family', 'row[period - 1] = averaged(flag, wh, date)\n',
+     'row[period - 1] = averaged(flag, wh, date)\n'
+     '                        if flag == "D" and own.get(number, {}).get(period):\n'
+     '                            mine = averaged(flag, own[number][period], date)\n'
+     '                            row[period - 1] = row[period - 1]._replace('
+     'remainder=mine.remainder)\n'),
     ('appoints the sender at the start of the date', 'self.appointed(mpan, date).sender',
      'registration.sender'),
     ('has a sender that was appointed at midday wait', '<= (date, MIDDAY)', '< (date, MIDDAY)'),

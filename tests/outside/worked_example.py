@@ -1,5 +1,5 @@
-"""The paper's worked example, its marked list, a net, bands and coverage worked by hand, on the
-plain ledger.
+"""The paper's worked example, its marked list, a net, bands, coverage and remainders worked by
+hand, on the plain ledger.
 
     python3 worked_example.py
 """
@@ -52,7 +52,7 @@ def marked_list():
     assert receive(reading(0, 5)) == ('no', 1005, 1)
     assert receive(reading(1440, 5)) == ('ok',)
     assert ledger.run(0) == ('ok', 1)
-    assert ledger.cell(0, 0, 48) == ('ok', 'A', 5, 1, 0)
+    assert ledger.cell(0, 0, 48) == ('ok', 'A', 5, 1, 0, 0)
 
     # Window 2.
     assert window_periods(2, 30) == list(range(2, 16))
@@ -61,7 +61,7 @@ def marked_list():
     # De-minimis 0 without readings and predecessor.
     ledger = store(plain)
     assert ledger.run(0) == ('ok', 0)
-    assert ledger.cell(0, 0, 1) == ('ok', 'N', 0, 0, 65535)
+    assert ledger.cell(0, 0, 1) == ('ok', 'N', 0, 0, 65535, 0)
 
     # Group A has 100, group B 200 and 600, de-minimis 3: 300, not 250.
     ledger = store((1, 1, 1, 1, 1, 0, 0, 3), (1, 2, 1, 1, 1, 0, 0, 3))
@@ -69,7 +69,7 @@ def marked_list():
         assert ledger.registration(mpan, 0, 0, category, 7, 1, 10000) == ('ok',)
         assert ledger.reception(7, mpan, 0, 30, 1, reading(30, wh)) == ('ok',)
     assert ledger.run(0) == ('ok', 2)
-    assert ledger.cell(0, 0, 1) == ledger.cell(0, 1, 1) == ('ok', 'D', 300, 3, 0)
+    assert ledger.cell(0, 0, 1) == ledger.cell(0, 1, 1) == ('ok', 'D', 300, 3, 0, 0)
 
     # ANN of sum 1,000 over 3 days: one reading of 1,000, then two dates without a copy.
     assert rounded(1000 * 365, 3) == 121667
@@ -155,10 +155,39 @@ def real_part_of_a_week():
     assert ledger.coverage(8, 0) == ('ok', 1, 94, 2, 141, 4)
 
 
+def what_rounding_dropped():
+    """Three meters of one category with 10, 11 and 13 Wh; the third has 12 Wh, then nothing."""
+    ledger = store((1, 1, 1, 1, 1, 0, 0, 1), (1, 2, 1, 1, 1, 0, 0, 1), dates=2, meters=3)
+    meters = 1000000000003, 1010000000000, 10
+    for mpan in meters:
+        assert ledger.registration(mpan, 0, 0, 0, 7, 1, 10000) == ('ok',)
+
+    def receive(mpan, *values):
+        assert ledger.reception(7, mpan, 0, 30, 1, b''.join(reading(30, wh) for wh in values))[0] \
+            == 'ok'
+
+    def cells():
+        return [ledger.cell(date, category, 1) for date in (0, 1) for category in (0, 1)]
+
+    def of(count, remainder):
+        return [('ok', flag, 11, count, 0, remainder) for flag in 'ADEE']
+
+    for mpan, wh in zip(meters, (10, 11, 13)):
+        receive(mpan, wh)
+    assert [ledger.run(0), ledger.run(1)] == [('ok', 2), ('ok', 2)]
+    assert cells() == of(3, 1)             # 34 = 3 x 11 + 1
+    receive(meters[2], 12)
+    assert ledger.run(0) == ('ok', 4) and cells() == of(3, 0)
+    receive(meters[2])
+    assert ledger.run(0) == ('ok', 4) and cells() == of(2, -1)
+    assert ledger.cell(0, 0, 2) == ('ok', 'N', 0, 0, 65535, 0)
+
+
 if __name__ == '__main__':
     assert run(INPUT) == OUTPUT
     marked_list()
     net_of_panels()
     days_like_the_coming_one()
     real_part_of_a_week()
-    print('worked example, marked list, net, bands and coverage agree')
+    what_rounding_dropped()
+    print('worked example, marked list, net, bands, coverage and remainders agree')

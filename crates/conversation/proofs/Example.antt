@@ -6,7 +6,7 @@ use mathlib.Core.Bool.{true}
 use mathlib.Core.List.{List, [], _∷_}
 use Rattle.metering.specs.Sum.{sumBelow}
 use Rattle.metering.specs.Mpan.{mpanValid, checkDigit, weightedSum, product, digit, weights}
-use Rattle.metering.specs.Average.{average, annual}
+use Rattle.metering.specs.Average.{average, remainder, annual}
 use Rattle.metering.specs.Range.{between, metersInRange, categoriesInRange, datesInRange, dayTypeValid, smartValid, categoryValid}
 use Rattle.metering.specs.Calendar.{durationKnown, periodsPerDay, periodEnding, liesWithin, windowStart, windowEnd}
 use Rattle.ledger.specs.Method.{categoryAt, isSmart, sameFamily, total, isEnough, freshOf, freshIn, blank, carried, cellFrom, afterDate, latest, cellOf, cellOn, sameCell, movedCell, overRunDates, totOn, offOn, peakOn, freshAmong, blanksAmong, totalsOn}
@@ -21,7 +21,7 @@ use Rattle.output.specs.Lines.{answerLine}
 use Rattle.commands.specs.Commands.{partsSuffice, callOf}
 use Rattle.commands.specs.Program.{obeyed, progress, outputOf}
 use Rattle.conversation.specs.Conversation.{plainOpening, plainAnswer, ledgerLeft, plainLine, plainAfter, plainProgram, firstPlain}
-use Rattle.conversation.specs.Example.{standardSetup, standardLengths, bytesOf, Prints, exampleInput, exampleOutput, WorkedDialogue, unopenedInput, unopenedOutput, UnopenedDialogue, badInputs, badOutput, BadInputs}
+use Rattle.conversation.specs.Example.{standardSetup, standardLengths, bytesOf, Prints, exampleInput, exampleOutput, WorkedDialogue, CellLines, unopenedInput, unopenedOutput, UnopenedDialogue, badInputs, badOutput, BadInputs}
 use Rattle.ledger.proofs.Bytes.{allBytes, are-bytes}
 use Rattle.conversation.proofs.Conversation.{same-bytes}
 
@@ -37,11 +37,15 @@ all-print text [] c = tt
 all-print text (input ∷ inputs) c = (prints input text (c .0), all-print text inputs (c .1))
 
 computed : Computed exampleInput exampleOutput × Computed unopenedInput unopenedOutput × Every (λ input. Computed input badOutput) badInputs
-unfolding outputOf progress obeyed plainLine plainAfter plainAnswer ledgerLeft plainOpening partsSuffice callOf bigEndian bodyOf extentOf commandExtent recordsExtent headLength isOverfull answerLine decimalIn decimalText energyText openingCheck sizesValid durationKnown metersInRange categoriesInRange datesInRange recordAt categoryNumber dayTypeNumber smartValid categoryValid dayTypeValid start ledgerAnswer ledgerAfter answer left settingsShort metersShort cellsShort daysShort anyShort meterWith changed ledgerRegistrationCheck registerIn afterRegistration ledgerReceptionCheck setOf at afterReception cellBy cellAt isRun ledgerRunCheck pictureOf afterRun movedBetween ledgerTotalsCheck ledgerCellCheck totalsAt settingsLength metersLength readingsLength cellsLength daysLength firstFailed momentOf startOf starts later latestFrom inForce appointed meterNumber registrationCheck bodyCheck inForceCheck receptionCheck isReading readingIn runCheck readCheck totalsInRange cellInRange movedCell overRunDates totOn offOn peakOn freshAmong blanksAmong totalsOn categoryAt mpanValid checkDigit weightedSum product digit weights sumBelow average annual recordNumber periodEnding periodsPerDay liesWithin windowStart windowEnd between sameCell blank cellOn cellOf cellFrom latest afterDate freshIn freshOf isEnough total isSmart sameFamily anyBelow endMinute quality wattHoursAt carried orElse firstNumber callNumber fieldsNumber headerNumber recordNumberIf contentNumber
+unfolding outputOf progress obeyed plainLine plainAfter plainAnswer ledgerLeft plainOpening partsSuffice callOf bigEndian bodyOf extentOf commandExtent recordsExtent headLength isOverfull answerLine decimalIn decimalText energyText openingCheck sizesValid durationKnown metersInRange categoriesInRange datesInRange recordAt categoryNumber dayTypeNumber smartValid categoryValid dayTypeValid start ledgerAnswer ledgerAfter answer left settingsShort metersShort cellsShort daysShort anyShort meterWith changed ledgerRegistrationCheck registerIn afterRegistration ledgerReceptionCheck setOf at afterReception cellBy cellAt isRun ledgerRunCheck pictureOf afterRun movedBetween ledgerTotalsCheck ledgerCellCheck totalsAt settingsLength metersLength readingsLength cellsLength daysLength firstFailed momentOf startOf starts later latestFrom inForce appointed meterNumber registrationCheck bodyCheck inForceCheck receptionCheck isReading readingIn runCheck readCheck totalsInRange cellInRange movedCell overRunDates totOn offOn peakOn freshAmong blanksAmong totalsOn categoryAt mpanValid checkDigit weightedSum product digit weights sumBelow average remainder annual recordNumber periodEnding periodsPerDay liesWithin windowStart windowEnd between sameCell blank cellOn cellOf cellFrom latest afterDate freshIn freshOf isEnough total isSmart sameFamily anyBelow endMinute quality wattHoursAt carried orElse firstNumber callNumber fieldsNumber headerNumber recordNumberIf contentNumber
 computed = ((refl, refl), (refl, refl), ((refl, refl), ((refl, refl), ((refl, refl), ((refl, refl), ((refl, refl), ((refl, refl), ((refl, refl), tt))))))))
 
 pub worked-dialogue : WorkedDialogue
 worked-dialogue = prints exampleInput exampleOutput (computed .0)
+
+pub cell-lines : CellLines
+unfolding answerLine decimalIn decimalText energyText
+cell-lines = (refl, refl, refl)
 
 pub unopened-dialogue : UnopenedDialogue
 unopened-dialogue = prints unopenedInput unopenedOutput (computed .1)

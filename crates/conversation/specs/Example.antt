@@ -1,12 +1,15 @@
--- The scope paper's worked dialogue, the same before any opening, and what it says on `bad`.
+-- The scope paper's worked dialogue, lines of cells, the dialogue before any opening, and what the paper says on `bad`.
 use Prim.Native.Nat.{ℕ}
 use Prim.Native.Char.{code}
 use Prim.Native.String as string
 use mathlib.Core.Path.{_≡_}
 use mathlib.Core.List.{List, [], _∷_, _++_}
+use lib.IntN.{pos, negsuc}
 use lib.ListN.{drop, replicate}
-use Rattle.ledger.specs.Ledger.{Lengths}
+use Rattle.ledger.specs.Method.{A, E, N}
+use Rattle.ledger.specs.Ledger.{cellIs, Lengths}
 use Rattle.ledger.specs.Engine.{Every}
+use Rattle.output.specs.Lines.{answerLine}
 use Rattle.commands.specs.Program.{joined, outputOf, Setup, storeProgram, firstState}
 
 -- 3 categories of 8 bytes, 8 day types, 4 meters, 384 date-periods
@@ -51,7 +54,15 @@ exampleOutput =
 abbrev pub WorkedDialogue : Type 0
 WorkedDialogue = Prints exampleInput exampleOutput
 
--- ---- the same from behind its opening on: unopened, every call answers 1
+-- ---- the lines of cells, which end with the remainder in whole Wh (change request 2026-04)
+
+abbrev pub CellLines : Type 0
+CellLines =
+    (answerLine 24 (cellIs (record { flag = A; value = 11; count = 2; origin = 0; remainder = negsuc 0 })) ≡ bytesOf "18 ok A 0.011 2 0 -1\n")
+    × (answerLine 24 (cellIs (record { flag = E; value = 1250; count = 1024; origin = 799; remainder = pos 511 })) ≡ bytesOf "18 ok E 1.250 1024 799 511\n")
+    × (answerLine 24 (cellIs (record { flag = N; value = 0; count = 0; origin = 65535; remainder = pos 0 })) ≡ bytesOf "18 ok N 0.000 0 - 0\n")
+
+-- ---- the dialogue from behind its opening on: unopened, every call answers 1
 
 abbrev pub unopenedInput : List ℕ
 unopenedInput = drop 17 exampleInput

@@ -11,4 +11,4 @@ flagMeant E = method.E
 flagMeant N = method.N
 
 abbrev pub cellMeant : Cell → method.Cell
-cellMeant a = record { flag = flagMeant (a .flag); value = a .value; count = a .count; origin = a .origin }
+cellMeant a = record { flag = flagMeant (a .flag); value = a .value; count = a .count; origin = a .origin; remainder = a .remainder }

@@ -1,8 +1,10 @@
 // A cell by value, and the two leaves that read and put its entry: `cell_of_entry` and `entry_of`.
+use metering::average::Average;
 ghost use mathlib.Core.Path.{_≡_};
 ghost use Prim.Native.Nat.{_<_};
-ghost use Rattle.ledger.specs.Method.{flagNumber, letterOf, blank, ownCell, pooledCell, isOwnCell, carried, sameCell};
-ghost use Rattle.ledger.specs.Store.{flagOf, flagNumberOf, entryOf, cellOfEntry};
+ghost use lib.Signed.{mag};
+ghost use Rattle.ledger.specs.Method.{flagNumber, letterOf, blank, ownCell, pooledCell, isOwnCell, carried};
+ghost use Rattle.ledger.specs.Store.{flagOf, flagNumberOf, remainderBits, entryOf, FitsEntry, cellOfEntry};
 ghost use Rattle.entries.specs.Cell.{flagMeant, cellMeant};
 
 pub enum Flag {
@@ -17,30 +19,33 @@ pub struct Cell {
     pub value: u64,
     pub count: u64,
     pub origin: u64,
+    pub remainder: i64,
 }
 
 impl Cell {
     // The average of a category's own readings on the date.
-    pub fn own(date: u64, value: u64, count: u64) -> Cell
-        ensures { λ r. ⌜ cellMeant r ≡ ownCell date value count ⌝ }
+    pub fn own(date: u64, average: Average, count: u64) -> Cell
+        ensures { λ r. ⌜ cellMeant r ≡ ownCell date (average .value) count (average .remainder) ⌝ }
     {
         Cell {
             flag: Flag::A,
-            value,
+            value: average.value,
             count,
             origin: date,
+            remainder: average.remainder,
         }
     }
 
     // The average over its family.
-    pub fn pooled(date: u64, value: u64, count: u64) -> Cell
-        ensures { λ r. ⌜ cellMeant r ≡ pooledCell date value count ⌝ }
+    pub fn pooled(date: u64, average: Average, count: u64) -> Cell
+        ensures { λ r. ⌜ cellMeant r ≡ pooledCell date (average .value) count (average .remainder) ⌝ }
     {
         Cell {
             flag: Flag::D,
-            value,
+            value: average.value,
             count,
             origin: date,
+            remainder: average.remainder,
         }
     }
 
@@ -52,6 +57,7 @@ impl Cell {
             value: 0,
             count: 0,
             origin: 65535,
+            remainder: 0,
         }
     }
 
@@ -80,33 +86,16 @@ impl Cell {
                 value: self.value,
                 count: self.count,
                 origin: self.origin,
+                remainder: self.remainder,
             },
         }
     }
-
-    // Whether flag, value, count and origin are all alike: such a cell did not move.
-    pub fn same(self, other: Cell) -> bool
-        ensures { λ r. ⌜ r ≡ sameCell (cellMeant self) (cellMeant other) ⌝ }
-    {
-        let flag = self.flag;
-        let other_flag = other.flag;
-        if number_of(flag) != number_of(other_flag) {
-            return false;
-        }
-        if self.value != other.value {
-            return false;
-        }
-        if self.count != other.count {
-            return false;
-        }
-        self.origin == other.origin
-    }
 }
 
-pub fn flag_number(entry: u64) -> u64
+fn flag_number(entry: u64) -> u64
     ensures { λ r. ⌜ r ≡ flagNumberOf entry ⌝ }
 {
-    entry % 8
+    entry % 4
 }
 
 fn flag_of(number: u64) -> Flag
@@ -131,7 +120,7 @@ fn number_of(flag: Flag) -> u64
         Flag::A => 1,
         Flag::D => 2,
         Flag::E => 3,
-        Flag::N => 4,
+        Flag::N => 0,
     }
 }
 
@@ -150,19 +139,44 @@ pub fn letter(flag: Flag) -> u8
 pub fn cell_of_entry(entry: u64) -> Cell
     ensures { λ r. ⌜ cellMeant r ≡ cellOfEntry entry ⌝ }
 {
-    let flag = flag_of(flag_number(entry));
+    let number = flag_number(entry);
+    let flag = flag_of(number);
+    let value = entry / 4294967296;
+    if number == 0 {
+        return Cell {
+            flag,
+            value,
+            count: 0,
+            origin: 65535,
+            remainder: 0,
+        };
+    }
     Cell {
         flag,
-        value: entry / 4294967296,
-        count: entry / 8 % 8192,
-        origin: entry / 65536 % 65536,
+        value,
+        count: entry / 4 % 1024 + 1,
+        origin: entry / 4096 % 1024,
+        remainder: (entry / 4194304 % 1024) as i64 - 512,
     }
 }
 
+// A remainder from -512 to 511, plus 512.
+fn remainder_bits(remainder: i64) -> u64
+    requires { ⌜ mag remainder < 512 ⌝ }
+    ensures { λ r. ⌜ r ≡ remainderBits remainder ⌝ }
+{
+    (remainder + 512) as u64
+}
+
 pub fn entry_of(cell: Cell) -> u64
-    requires { ⌜ entryOf (cellMeant cell) < 18446744073709551616 ⌝ }
+    requires { ⌜ FitsEntry (cellMeant cell) ⌝ }
     ensures { λ r. ⌜ r ≡ entryOf (cellMeant cell) ⌝ }
 {
     let flag = cell.flag;
-    number_of(flag) + 8 * cell.count + 65536 * cell.origin + 4294967296 * cell.value
+    let number = number_of(flag);
+    let above = 4194304 * remainder_bits(cell.remainder) + 4294967296 * cell.value;
+    if number == 0 {
+        return above;
+    }
+    number + 4 * (cell.count - 1) + 4096 * cell.origin + above
 }

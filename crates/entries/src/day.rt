@@ -5,7 +5,7 @@ ghost use Rattle.ledger.specs.Method.{isFresh, isBlank, originOf};
 ghost use Rattle.ledger.specs.Store.{cellOfEntry, dayEntry, totEntry, countsOf, dayFresh, dayBlanks, energyOf, runDatesOf};
 ghost use Rattle.entries.specs.Sums.{Figure};
 
-// Flag, count and origin stand in the lower half of a cell's entry, and 32 bits are counted faster than 64.
+// Flag, count, origin and remainder stand in the lower half of a cell's entry, and 32 bits are counted faster than 64.
 pub fn lower_half(entry: u64) -> u32
     ensures { λ r. ⌜ r ≡ entry % 4294967296 ⌝ }
 {
@@ -16,7 +16,7 @@ pub fn fresh_in(half: u32) -> u32
     ensures { λ r. ⌜ r ≡ isFresh (cellOfEntry half .flag) ⌝ }
     ensures { λ r. ⌜ r ≤ 1 ⌝ }
 {
-    let flag = half % 8;
+    let flag = half % 4;
     if flag == 1 {
         return 1;
     }
@@ -30,17 +30,10 @@ pub fn blank_in(half: u32) -> u32
     ensures { λ r. ⌜ r ≡ isBlank (cellOfEntry half .flag) ⌝ }
     ensures { λ r. ⌜ r ≤ 1 ⌝ }
 {
-    let flag = half % 8;
-    if flag == 1 {
-        return 0;
+    if half % 4 == 0 {
+        return 1;
     }
-    if flag == 2 {
-        return 0;
-    }
-    if flag == 3 {
-        return 0;
-    }
-    1
+    0
 }
 
 // An N cell has no origin, which counts as the highest.
@@ -50,7 +43,7 @@ pub fn origin_in(half: u32) -> u32
     if blank_in(half) == 1 {
         return 65535;
     }
-    half / 65536
+    half / 4096 % 1024
 }
 
 pub fn value_in(entry: u64) -> u64

@@ -2,12 +2,11 @@
 use crate::cell::Cell;
 use crate::cell::cell_of_entry;
 use crate::cell::entry_of;
-use crate::cell::flag_number;
 ghost use mathlib.Core.Path.{_≡_};
 ghost use Rattle.ledger.specs.Calls.{carriedEntry, isOwn, comparedEntry, movedEntry};
 
-// The entry of the blank cell, as a constant: flag N, value 0, count 0, origin 65535.
-pub const BLANK_ENTRY: u64 = 4294901764;
+// The entry of the blank cell, as a constant.
+pub const BLANK_ENTRY: u64 = 2147483648;
 
 pub fn carried_entry(entry: u64) -> u64
     ensures { λ r. ⌜ r ≡ carriedEntry entry ⌝ }
@@ -31,14 +30,11 @@ pub fn compared_entry(entry: u64) -> u64
     entry
 }
 
-// 1 where the cell moved. A flag number that no put gave reads as N, and still differs from N's own.
+// 1 where the cell moved: an entry holds all five fields, so that two cells are alike where their entries are.
 pub fn moved_entry(a: u64, b: u64) -> u64
     ensures { λ r. ⌜ r ≡ movedEntry a b ⌝ }
 {
-    if flag_number(a) != flag_number(b) {
-        return 1;
-    }
-    if cell_of_entry(a).same(cell_of_entry(b)) {
+    if a == b {
         return 0;
     }
     1

@@ -2,7 +2,7 @@
 use Prim.Native.Nat.{ℕ, _≤_, _<_}
 use mathlib.Core.Path.{_≡_}
 use mathlib.Core.Bool.{Bool, cond}
-use mathlib.Core.List.{List, [], _∷_}
+use mathlib.Core.List.{List, [], _∷_, _++_}
 use lib.Dec.{ltb}
 use lib.IntN.{ℤ, pos}
 use lib.ListN.{length, take}
@@ -30,7 +30,7 @@ abbrev pub totalsFields : Totals → List ℕ
 totalsFields t =
     t .tot ∷ t .off ∷ t .peak ∷ t .tot7 ∷ t .off7 ∷ t .peak7 ∷ t .days7 ∷ t .ann ∷ t .days ∷ t .fresh ∷ t .blanks ∷ []
 
--- flag, value, count, origin
+-- flag, value, count, origin; the remainder follows, which has its sign already
 abbrev pub cellFields : Cell → List ℕ
 cellFields a = letterOf (a .flag) ∷ a .value ∷ a .count ∷ a .origin ∷ []
 
@@ -49,7 +49,7 @@ fieldsOf (refused number place) = pos place ∷ []
 fieldsOf accepted = []
 fieldsOf (moved m) = pos m ∷ []
 fieldsOf (totalsAre t) = signed (totalsFields t)
-fieldsOf (cellIs a) = signed (cellFields a)
+fieldsOf (cellIs a) = signed (cellFields a) ++ (a .remainder ∷ [])
 fieldsOf (netIs n) = n .tot ∷ n .tot7 ∷ []
 fieldsOf (bandIs b) = pos (b .written) ∷ pos (b .found) ∷ []
 fieldsOf (filledAre v) = []

@@ -23,8 +23,8 @@ pub worked-fields :
     × (fieldsOf
     (totalsAre (record { tot = 1; off = 2; peak = 3; tot7 = 4; off7 = 5; peak7 = 6; days7 = 7; ann = 8; days = 9; fresh = 10; blanks = 11 }))
     ≡ pos 1 ∷ pos 2 ∷ pos 3 ∷ pos 4 ∷ pos 5 ∷ pos 6 ∷ pos 7 ∷ pos 8 ∷ pos 9 ∷ pos 10 ∷ pos 11 ∷ [])
-    × (fieldsOf (cellIs (record { flag = E; value = 500; count = 1; origin = 0 })) ≡ pos 69 ∷ pos 500 ∷ pos 1 ∷ pos 0 ∷ [])
-    × (fieldsOf (cellIs (record { flag = N; value = 0; count = 0; origin = 65535 })) ≡ pos 78 ∷ pos 0 ∷ pos 0 ∷ pos 65535 ∷ [])
+    × (fieldsOf (cellIs (record { flag = E; value = 11; count = 2; origin = 0; remainder = negsuc 0 })) ≡ pos 69 ∷ pos 11 ∷ pos 2 ∷ pos 0 ∷ negsuc 0 ∷ [])
+    × (fieldsOf (cellIs (record { flag = N; value = 0; count = 0; origin = 65535; remainder = pos 0 })) ≡ pos 78 ∷ pos 0 ∷ pos 0 ∷ pos 65535 ∷ pos 0 ∷ [])
     × (fieldsOf (netIs (record { tot = negsuc 9; tot7 = pos 50; periods = []; marks = [] })) ≡ negsuc 9 ∷ pos 50 ∷ [])
     × (fieldsOf (bandIs (record { written = 2; found = 3; dates = 0 ∷ 2 ∷ [] })) ≡ pos 2 ∷ pos 3 ∷ [])
     × (numberOf (filledAre (46 ∷ 27 ∷ 27 ∷ 0 ∷ [])) ≡ 0)

@@ -125,10 +125,11 @@ fn cell_fields(cell: Cell) -> Numbers
     let value = cell.value as i64;
     let count = cell.count as i64;
     let origin = cell.origin as i64;
+    let remainder = cell.remainder;
     Numbers {
         number: 0,
-        fields: [shown, value, count, origin, 0, 0, 0, 0, 0, 0, 0],
-        count: 4,
+        fields: [shown, value, count, origin, remainder, 0, 0, 0, 0, 0, 0],
+        count: 5,
     }
 }
 

@@ -20,7 +20,7 @@ use Rattle.ledger.specs.Checks.{Registration, RegistrationCall, ReceptionCall, 
 use Rattle.ledger.specs.Band.{BandCall, bandOn, bandDates}
 use Rattle.ledger.specs.Fill.{FillCall}
 use Rattle.ledger.specs.Ledger.{Answer, answer, accepted, moved, totalsAre, cellIs, netIs, bandIs, filledAre, coverageIs}
-use Rattle.ledger.specs.Store.{categoriesOf, datesOf, periodsOf, rowLength, dayTypeOf, categoryOf, settingsReady, readingsReady, cellsReady, daysReady, cellOfEntry, cellIndex, totRow, offRow, dayIndex, dayFresh, dayBlanks, isRunDay, coverageOf, energyOf, runDatesOf, peakOf, totalsOf}
+use Rattle.ledger.specs.Store.{categoriesOf, datesOf, periodsOf, rowLength, dayTypeOf, categoryOf, settingsReady, readingsReady, cellsReady, daysReady, flagNumberOf, cellOfEntry, cellIndex, totRow, offRow, dayIndex, dayFresh, dayBlanks, isRunDay, coverageOf, energyOf, runDatesOf, peakOf, totalsOf}
 use Rattle.ledger.specs.Calls.{Published, asPublished, Placing, publish, openingVerdict, registrationVerdict, receptionVerdict, runUnready, runVerdict, rowAt, carriedEntry, comparedEntry, differing, follows, movedInRow, movedByRow, followRow, inheritedAfter, carryOn, settled, newRow, ranFrom, stretchSum, datesSum, daysUnready, dayVerdict, entriesAt, totalsFor, cellVerdict, cellFor, netVerdict, netFor, bandVerdict, bandFor, fillVerdict, fillFor, coverageFor}
 use Rattle.ledger.specs.Ready.{Ready, ready, row-bounds}
 use Rattle.ledger.proofs.Open.{sizes-valid}
@@ -137,23 +137,21 @@ dates-few : (n : ℕ) (isRun : ℕ → Bool) (dayType tot : ℕ → ℕ) (a : Ba
 unfolding bandDates
 dates-few n isRun dayType tot a = cases (leb (a .least) (a .most) && dayTypeValid (a .dayType)) (λ q. rw q (chosen-few n _)) (λ q. rw q zero-le)
 
+count-and-origin-low : (e : ℕ) → Fits (cellOfEntry e .count) × Fits (cellOfEntry e .origin)
+unfolding cellOfEntry
+count-and-origin-low e = cases (eqb (flagNumberOf e) 0) (λ q. rw q (omega arith, omega arith)) (λ q. rw q (omega arith, omega arith))
+
 module _ (S C : List ℕ) (entries : (i : ℕ) → getD C i 0 < 18446744073709551616) where
   value-low : (d c j : ℕ) → cellFor S C d c j .value ≤ 4294967295
   unfolding cellFor cellOfEntry
   value-low d c j = let e = entries (cellIndex (categoriesOf S) (periodsOf S) d c j) in omega arith
 
-  count-low : (d c j : ℕ) → Fits (cellFor S C d c j .count)
-  unfolding cellFor cellOfEntry
-  count-low d c j = let e = entries (cellIndex (categoriesOf S) (periodsOf S) d c j) in omega arith
-
-  origin-low : (d c j : ℕ) → Fits (cellFor S C d c j .origin)
-  unfolding cellFor cellOfEntry
-  origin-low d c j = let e = entries (cellIndex (categoriesOf S) (periodsOf S) d c j) in omega arith
-
   cell-low : (d c j : ℕ) → FieldsFit (cellIs (cellFor S C d c j))
+  unfolding cellFor
   cell-low d c j =
       let v = value-low d c j in
-      (letter-low (cellFor S C d c j .flag), (omega arith, (count-low d c j, (origin-low d c j, tt))))
+      let few = count-and-origin-low (getD C (cellIndex (categoriesOf S) (periodsOf S) d c j) 0) in
+      (letter-low (cellFor S C d c j .flag), (omega arith, (few .0, (few .1, tt))))
 
   pub cell-fits : (d c j : ℕ) → FieldsFit (answer (cellVerdict S C d c j) (cellIs (cellFor S C d c j)))
   cell-fits d c j = answer-fits (cellVerdict S C d c j) (cellIs (cellFor S C d c j)) (unfold cellVerdict in omega arith) (λ e. cell-low d c j)

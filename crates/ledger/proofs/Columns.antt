@@ -9,7 +9,8 @@ use lib.Dec.{eqb}
 use borrow.Table.Steps.{cases}
 use borrow.Author.Tests.{eqb-true, eqb-false}
 use Rattle.ledger.specs.Method.{Fresh, Cell, blank, cellFrom, Day, notRun, ran, afterDate, latest, cellOf, cellOn}
-use Rattle.ledger.proofs.Entries.{Small, SmallFresh, blank-small, cellFrom-small}
+use Rattle.ledger.specs.Store.{FitsEntry}
+use Rattle.ledger.proofs.Entries.{FreshFits, blank-fits, cellFrom-fits}
 
 -- a date that is run or not, with its own shape if it is
 abbrev pub dayIf : Bool → Fresh → Day
@@ -43,27 +44,27 @@ module _ (dayType : ℕ → ℕ) (day : ℕ → Day) (t d : ℕ) where
   unfolding cellOn cellOf
   cell-not-run e = rw e
 
-pass-small : (d : ℕ) (f : Fresh) (r q : Bool) (before : Cell) → d < 65536 → SmallFresh f → Small before → Small (afterDate d (dayIf r f) q before)
+pass-fits : (d : ℕ) (f : Fresh) (r q : Bool) (before : Cell) → d < 1024 → FreshFits f → FitsEntry before → FitsEntry (afterDate d (dayIf r f) q before)
 unfolding afterDate
-pass-small d f true true before h s t = cellFrom-small d f before h s t
-pass-small d f true false before h s t = t
-pass-small d f false q before h s t = t
+pass-fits d f true true before h s t = cellFrom-fits d f before h s t
+pass-fits d f true false before h s t = t
+pass-fits d f false q before h s t = t
 
 -- every cell of a column whose own shapes have room
-module _ (dayType : ℕ → ℕ) (run : ℕ → Bool) (fresh : ℕ → Fresh) (small : (x : ℕ) → SmallFresh (fresh x)) where
-  pub latest-small : (t d : ℕ) → d ≤ 65536 → Small (latest dayType (λ x. dayIf (run x) (fresh x)) t d)
+module _ (dayType : ℕ → ℕ) (run : ℕ → Bool) (fresh : ℕ → Fresh) (small : (x : ℕ) → FreshFits (fresh x)) where
+  pub latest-fits : (t d : ℕ) → d ≤ 1024 → FitsEntry (latest dayType (λ x. dayIf (run x) (fresh x)) t d)
   unfolding latest
-  latest-small t zero h = blank-small
-  latest-small t (suc d) h =
-      pass-small d (fresh d) (run d) (eqb (dayType d) t) (latest dayType (λ x. dayIf (run x) (fresh x)) t d) (omega arith) (small d)
-      (latest-small t d (omega arith))
+  latest-fits t zero h = blank-fits
+  latest-fits t (suc d) h =
+      pass-fits d (fresh d) (run d) (eqb (dayType d) t) (latest dayType (λ x. dayIf (run x) (fresh x)) t d) (omega arith) (small d)
+      (latest-fits t d (omega arith))
 
-  pub cell-small : (d : ℕ) → d < 65536 → Small (cellOn dayType (λ x. dayIf (run x) (fresh x)) d)
+  pub cell-fits : (d : ℕ) → d < 1024 → FitsEntry (cellOn dayType (λ x. dayIf (run x) (fresh x)) d)
   unfolding cellOn cellOf
-  cell-small d h =
-      (elim (run d) as (λ b. Small (cellOf d (dayIf b (fresh d)) (latest dayType (λ x. dayIf (run x) (fresh x)) (dayType d) d))) [
-        | true ↦ cellFrom-small d (fresh d) _ h (small d) (latest-small (dayType d) d (omega arith))
-        | false ↦ blank-small
+  cell-fits d h =
+      (elim (run d) as (λ b. FitsEntry (cellOf d (dayIf b (fresh d)) (latest dayType (λ x. dayIf (run x) (fresh x)) (dayType d) d))) [
+        | true ↦ cellFrom-fits d (fresh d) _ h (small d) (latest-fits (dayType d) d (omega arith))
+        | false ↦ blank-fits
       ])
 
 -- two columns that are alike but at one date

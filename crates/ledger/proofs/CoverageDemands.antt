@@ -30,15 +30,15 @@ unfolding cellOf cellFrom blank
 copied-or-own d notRun before n = absurd (n refl)
 copied-or-own d (ran absent) before n =
     ⊎-elim (λ q. absurd (n (carried-exact before .1 q .flagged))) (λ q. inl (carried-exact before .0 q .flagged)) (is-N (before .flag))
-copied-or-own d (ran (own v k)) before n = inr refl
-copied-or-own d (ran (pooled v k)) before n = inr refl
+copied-or-own d (ran (own v k r)) before n = inr refl
+copied-or-own d (ran (pooled v k r)) before n = inr refl
 
 -- a copy's origin is before the date, so no origin is after it
 origin-le : (l : Ledger) (d c j : ℕ) → cellAt l d c j .flag ≢ N → cellAt l d c j .origin ≤ d
 unfolding cellAt cellBy cellOn
 origin-le l d c j n =
     ⊎-elim
-    (λ e. let low = copies-have-origins l d c j e .4 in omega arith)
+    (λ e. let low = copies-have-origins l d c j e .5 in omega arith)
     (λ (e : cellAt l d c j .origin ≡ d). omega arith)
     (copied-or-own d (dayOf (category (l .opening)) c j (l .pictures d)) _ n)
 

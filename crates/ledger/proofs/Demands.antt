@@ -1,20 +1,24 @@
 -- Demand 2 and the consequences of agreement.
 use Prim.Native.Nat.{ℕ, zero, suc, _<_}
-use mathlib.Core.Path.{_≡_, refl, sym, ap, fun-ext, _∙_}
+use mathlib.Core.Path.{_≡_, refl, sym, ap, subst, fun-ext, _∙_}
 use mathlib.Core.Logic.{_≢_, _⊎_, inl, inr, ⊎-elim}
-use mathlib.Core.Bool.{Bool, true, false, not, cond}
+use mathlib.Core.Bool.{Bool, true, false, not, _&&_, cond, and-eq-true-iff, true≢false}
 use mathlib.Core.Option.{Option, none, some}
 use native.Mathlib.Omega.{arith}
 use lib.Dec.{eqb, leb}
+use lib.IntN.{ℤ}
 use borrow.Table.Steps.{cases}
 use borrow.Author.Tests.{eqb-true, eq-eqb, ne-eqb, lt-leb}
-use Rattle.ledger.specs.Method.{Category, Picture, freshIn, Fresh, absent, own, pooled, Cell, Flag, A, D, E, N, blank, carried, cellFrom, Day, notRun, ran, afterDate, latest, cellOf, cellOn}
+use Rattle.metering.specs.Average.{Rounded}
+use Rattle.metering.specs.Laws.{rounded-is}
+use Rattle.ledger.specs.Method.{Category, Picture, wattHours, present, total, isEnough, freshOf, freshIn, Fresh, absent, own, pooled, Cell, Flag, A, D, E, N, blank, ownCell, pooledCell, isOwnCell, carried, cellFrom, Day, notRun, ran, afterDate, latest, cellOf, cellOn}
 use Rattle.ledger.specs.Checks.{verdict, runCheck, readCheck, totalsInRange, cellInRange}
 use Rattle.ledger.specs.Ledger.{categories, dates, periods, category, dayType, Ledger, Answer, refused, moved, totalsAre, coverageIs, cellIs, answer, Lengths, cellsShort, daysShort, anyShort, at, cellBy, cellAt, dayOf, isPicture, isRun, ledgerRunCheck, ledgerTotalsCheck, ledgerCoverageCheck, coverageAt, ledgerCellCheck, pictureOf, afterRun, movedBetween, totalsAt, ledgerAnswer}
-use Rattle.ledger.specs.Demands.{RunIsMethod, NeverNotRun, SecondRunMovesNothing, SamePicturesSameCells, CopiesHaveOrigins}
+use Rattle.ledger.specs.Demands.{RunIsMethod, NeverNotRun, SecondRunMovesNothing, SamePicturesSameCells, CopiesHaveOrigins, Averages, familyOf, SumsShown}
 use Rattle.ledger.proofs.Lists.{sumBelow-none}
-use Rattle.ledger.proofs.Entries.{moved-same}
+use Rattle.ledger.proofs.Entries.{moved-same, carried-not-own}
 use Rattle.ledger.proofs.Columns.{latest-other-type}
+use Rattle.ledger.proofs.Tallies.{enough-some}
 
 -- ---- runs and reads
 
@@ -91,10 +95,15 @@ unfolding ledgerAnswer answer
 second-run-moves-nothing l n d long h = rw (run-passes l n d long h) (ap moved (still l d))
 
 -- where a cell that is not blank comes from: a run date before d, with its own shape
+abbrev FromDate : (ℕ → Day) → ℕ → Cell → Type 0
+FromDate day d a =
+    (a .origin < d)
+    × ((day (a .origin) ≡ ran (own (a .value) (a .count) (a .remainder))) ⊎ (day (a .origin) ≡ ran (pooled (a .value) (a .count) (a .remainder))))
+
 abbrev From : (ℕ → Day) → ℕ → Cell → Flag → Type 0
-From day d a A = (a .origin < d) × ((day (a .origin) ≡ ran (own (a .value) (a .count))) ⊎ (day (a .origin) ≡ ran (pooled (a .value) (a .count))))
-From day d a D = (a .origin < d) × ((day (a .origin) ≡ ran (own (a .value) (a .count))) ⊎ (day (a .origin) ≡ ran (pooled (a .value) (a .count))))
-From day d a E = (a .origin < d) × ((day (a .origin) ≡ ran (own (a .value) (a .count))) ⊎ (day (a .origin) ≡ ran (pooled (a .value) (a .count))))
+From day d a A = FromDate day d a
+From day d a D = FromDate day d a
+From day d a E = FromDate day d a
 From day d a N = Unit {0}
 
 from-later : (day : ℕ → Day) (d : ℕ) (a : Cell) (f : Flag) → From day d a f → From day (suc d) a f
@@ -116,8 +125,8 @@ from-carried day d a h =
 from-cell : (day : ℕ → Day) (d : ℕ) (f : Fresh) (b : Cell) → day d ≡ ran f → From day d b (b .flag) → From day (suc d) (cellFrom d f b) (cellFrom d f b .flag)
 unfolding cellFrom
 from-cell day d absent b e h = from-later day d (carried b) (carried b .flag) (from-carried day d b h)
-from-cell day d (own v n) b e h = (omega arith, inl e)
-from-cell day d (pooled v n) b e h = (omega arith, inr e)
+from-cell day d (own v n r) b e h = (omega arith, inl e)
+from-cell day d (pooled v n r) b e h = (omega arith, inr e)
 
 from-latest : (dt : ℕ → ℕ) (day : ℕ → Day) (t d : ℕ) → From day d (latest dt day t d) (latest dt day t d .flag)
 unfolding latest blank afterDate
@@ -134,29 +143,24 @@ from-latest dt day t (suc d) = past (day d) refl (from-latest dt day t d)
         ])
 
 -- a column's copied cell
-copied : (dt : ℕ → ℕ) (day : ℕ → Day) (d : ℕ) → cellOn dt day d .flag ≡ E →
-    (cellOn dt day d .origin < d)
-    × ((day (cellOn dt day d .origin) ≡ ran (own (cellOn dt day d .value) (cellOn dt day d .count)))
-    ⊎ (day (cellOn dt day d .origin) ≡ ran (pooled (cellOn dt day d .value) (cellOn dt day d .count))))
+copied : (dt : ℕ → ℕ) (day : ℕ → Day) (d : ℕ) → cellOn dt day d .flag ≡ E → FromDate day d (cellOn dt day d)
 unfolding cellOn cellOf blank cellFrom
 copied dt day d e = go (day d) e
   where
-    go : (x : Day) → cellOf d x (latest dt day (dt d) d) .flag ≡ E →
-        (cellOf d x (latest dt day (dt d) d) .origin < d)
-        × ((day (cellOf d x (latest dt day (dt d) d) .origin) ≡ ran (own (cellOf d x (latest dt day (dt d) d) .value) (cellOf d x (latest dt day (dt d) d) .count)))
-        ⊎ (day (cellOf d x (latest dt day (dt d) d) .origin) ≡ ran (pooled (cellOf d x (latest dt day (dt d) d) .value) (cellOf d x (latest dt day (dt d) d) .count))))
+    go : (x : Day) → cellOf d x (latest dt day (dt d) d) .flag ≡ E → FromDate day d (cellOf d x (latest dt day (dt d) d))
     go notRun e = absurd (let z : _≡_ {A = ℕ} 0 1 = cc in omega arith)
     go (ran absent) e = rw e at (from-carried day d (latest dt day (dt d) d) (from-latest dt day (dt d) d))
-    go (ran (own v n)) e = absurd (let z : _≡_ {A = ℕ} 0 1 = cc in omega arith)
-    go (ran (pooled v n)) e = absurd (let z : _≡_ {A = ℕ} 0 1 = cc in omega arith)
+    go (ran (own v n r)) e = absurd (let z : _≡_ {A = ℕ} 0 1 = cc in omega arith)
+    go (ran (pooled v n r)) e = absurd (let z : _≡_ {A = ℕ} 0 1 = cc in omega arith)
 
-own-on : (dt : ℕ → ℕ) (day : ℕ → Day) (x v n : ℕ) → day x ≡ ran (own v n) → cellOn dt day x ≡ record { flag = A; value = v; count = n; origin = x }
-unfolding cellOn cellOf cellFrom
-own-on dt day x v n q = rw q
+module _ (dt : ℕ → ℕ) (day : ℕ → Day) (x v n : ℕ) (r : ℤ) where
+  own-on : day x ≡ ran (own v n r) → cellOn dt day x ≡ ownCell x v n r
+  unfolding cellOn cellOf cellFrom
+  own-on q = rw q
 
-pooled-on : (dt : ℕ → ℕ) (day : ℕ → Day) (x v n : ℕ) → day x ≡ ran (pooled v n) → cellOn dt day x ≡ record { flag = D; value = v; count = n; origin = x }
-unfolding cellOn cellOf cellFrom
-pooled-on dt day x v n q = rw q
+  pooled-on : day x ≡ ran (pooled v n r) → cellOn dt day x ≡ pooledCell x v n r
+  unfolding cellOn cellOf cellFrom
+  pooled-on q = rw q
 
 ran-run : (categoryOf : ℕ → Category) (c j : ℕ) (p : Option Picture) (f : Fresh) → dayOf categoryOf c j p ≡ ran f → isPicture p ≡ true
 ran-run categoryOf c j none f e = absurd (let z : _≡_ {A = ℕ} 0 1 = cc in omega arith)
@@ -167,11 +171,11 @@ unfolding cellAt cellBy isRun
 copies-have-origins l d c j e =
     ⊎-elim
     (λ q.
-    let a = own-on dt day _ _ _ q in
-    (ran-run (category (l .opening)) c j (l .pictures (cellOn dt day d .origin)) _ q, inl (ap (λ x. x .flag) a), ap (λ x. x .value) a, ap (λ x. x .count) a, here .0))
+    let a = own-on dt day _ _ _ _ q in
+    (ran-run (category (l .opening)) c j (l .pictures (cellOn dt day d .origin)) _ q, inl (ap (λ x. x .flag) a), ap (λ x. x .value) a, ap (λ x. x .count) a, ap (λ x. x .remainder) a, here .0))
     (λ q.
-    let a = pooled-on dt day _ _ _ q in
-    (ran-run (category (l .opening)) c j (l .pictures (cellOn dt day d .origin)) _ q, inr (ap (λ x. x .flag) a), ap (λ x. x .value) a, ap (λ x. x .count) a, here .0))
+    let a = pooled-on dt day _ _ _ _ q in
+    (ran-run (category (l .opening)) c j (l .pictures (cellOn dt day d .origin)) _ q, inr (ap (λ x. x .flag) a), ap (λ x. x .value) a, ap (λ x. x .count) a, ap (λ x. x .remainder) a, here .0))
     (here .1)
   where
     dt : ℕ → ℕ
@@ -180,7 +184,87 @@ copies-have-origins l d c j e =
     day : ℕ → Day
     day x = dayOf (category (l .opening)) c j (l .pictures x)
 
-    here : (cellOn dt day d .origin < d)
-        × ((day (cellOn dt day d .origin) ≡ ran (own (cellOn dt day d .value) (cellOn dt day d .count)))
-        ⊎ (day (cellOn dt day d .origin) ≡ ran (pooled (cellOn dt day d .value) (cellOn dt day d .count))))
+    here : FromDate day d (cellOn dt day d)
     here = copied dt day d e
+
+-- ---- what rounding dropped
+
+-- an own shape that a date's sums and counts give
+abbrev Rounds : ℕ → ℕ → ℕ → ℕ → Fresh → Type 0
+Rounds s n S K absent = Unit {0}
+Rounds s n S K (own v k r) = (k ≡ n) × Rounded s k v r
+Rounds s n S K (pooled v k r) = (k ≡ K) × Rounded S k v r
+
+fresh-rounds : (smart : Bool) (m s n S K : ℕ) → Rounds s n S K (freshOf smart m s n S K)
+unfolding freshOf
+fresh-rounds smart m s n S K =
+    cases (isEnough n m)
+    (λ e. rw e (refl, rounded-is s n _ _ (enough-some n m e) .1 (refl, refl)))
+    (λ e.
+    rw e
+    (cases (smart && isEnough K m)
+    (λ q. rw q (refl, rounded-is S K _ _ (enough-some K m (and-eq-true-iff smart (isEnough K m) .0 q .1)) .1 (refl, refl)))
+    (λ q. rw q tt)))
+
+module _ (l : Ledger) (c j : ℕ) where
+  abbrev dayIn : Option Picture → Day
+  dayIn = dayOf (category (l .opening)) c j
+
+  abbrev DayRounds : Picture → Day → Type 0
+  DayRounds p notRun = Unit {0}
+  DayRounds p (ran f) =
+      Rounds (total wattHours (eqb c) p j) (total present (eqb c) p j) (total wattHours (familyOf l c) p j) (total present (familyOf l c) p j) f
+
+  day-rounds : (p : Picture) → DayRounds p (dayIn (some p))
+  unfolding freshIn
+  day-rounds p = fresh-rounds _ _ _ _ _ _
+
+  module _ (d : ℕ) (a : Cell) where
+    of-own : (q : Option Picture) → l .pictures d ≡ q → dayIn q ≡ ran (own (a .value) (a .count) (a .remainder)) → Averages l d (eqb c) j a
+    of-own none is e = absurd (let z : _≡_ {A = ℕ} 0 1 = cc in omega arith)
+    of-own (some p) is e =
+        let x = subst (DayRounds p) e (day-rounds p) in
+        record { picture = p; is-picture = is; counts = x .0; rounds = x .1 }
+
+    of-pooled : (q : Option Picture) → l .pictures d ≡ q → dayIn q ≡ ran (pooled (a .value) (a .count) (a .remainder)) → Averages l d (familyOf l c) j a
+    of-pooled none is e = absurd (let z : _≡_ {A = ℕ} 0 1 = cc in omega arith)
+    of-pooled (some p) is e =
+        let x = subst (DayRounds p) e (day-rounds p) in
+        record { picture = p; is-picture = is; counts = x .0; rounds = x .1 }
+
+not-own : (a : Cell) → isOwnCell a ≡ false → (a .flag ≢ A) × (a .flag ≢ D)
+unfolding isOwnCell
+not-own a h = (λ e. true≢false (rw e at h), λ e. true≢false (rw e at h))
+
+-- a cell that is A or D is its date's own shape
+own-flagged : (d : ℕ) (x : Day) (before : Cell) → let a = cellOf d x before in
+    (a .flag ≡ A → x ≡ ran (own (a .value) (a .count) (a .remainder))) × (a .flag ≡ D → x ≡ ran (pooled (a .value) (a .count) (a .remainder)))
+unfolding cellOf cellFrom blank
+own-flagged d notRun before = (λ e. absurd (let z : _≡_ {A = ℕ} 0 1 = cc in omega arith), λ e. absurd (let z : _≡_ {A = ℕ} 0 1 = cc in omega arith))
+own-flagged d (ran absent) before = let n = not-own (carried before) (carried-not-own before) in (λ e. absurd (n .0 e), λ e. absurd (n .1 e))
+own-flagged d (ran (own v n r)) before = (λ e. refl, λ e. absurd (let z : _≡_ {A = ℕ} 0 1 = cc in omega arith))
+own-flagged d (ran (pooled v n r)) before = (λ e. absurd (let z : _≡_ {A = ℕ} 0 1 = cc in omega arith), λ e. refl)
+
+pub sums-shown : SumsShown
+unfolding cellAt cellBy
+sums-shown l d c j = (
+  λ e. of-own l c j d a (l .pictures d) refl (here .0 e),
+  λ e. of-pooled l c j d a (l .pictures d) refl (here .1 e),
+  λ e.
+      ⊎-elim
+      (λ q. inl (ap (λ x. x .flag) (own-on dt day _ _ _ _ q), of-own l c j (a .origin) a (l .pictures (a .origin)) refl q))
+      (λ q. inr (ap (λ x. x .flag) (pooled-on dt day _ _ _ _ q), of-pooled l c j (a .origin) a (l .pictures (a .origin)) refl q))
+      (copied dt day d e .1),
+)
+  where
+    dt : ℕ → ℕ
+    dt = dayType (l .opening)
+
+    day : ℕ → Day
+    day x = dayIn l c j (l .pictures x)
+
+    a : Cell
+    a = cellOn dt day d
+
+    here : (a .flag ≡ A → day d ≡ ran (own (a .value) (a .count) (a .remainder))) × (a .flag ≡ D → day d ≡ ran (pooled (a .value) (a .count) (a .remainder)))
+    here = unfold cellOn in own-flagged d (day d) _

@@ -21,7 +21,7 @@ use Rattle.ledger.specs.Ledger.{Opening, categories, dates, periods, cat
 use Rattle.ledger.specs.Calls.{openingVerdict}
 use Rattle.ledger.specs.Engine.{Parts, openedParts, Item, answersFrom, storeAnswers, cutLengths, ledgerAnswers, lengthsOf, BodyOfBytes, BodiesOfBytes, Every}
 use Rattle.ledger.specs.Demands.{ledgerAfterItems, ledgerBeside, LastAnswer, Accepts, EngineReceivesExactly, EngineRuns, Spares, EngineReadsMethod, shapeValue, Shared, Fills, EngineFills, EngineCovers}
-use Rattle.ledger.specs.Marked.{exampleOpening, exampleCalls, exampleAnswers, netOpening, netCalls, netAnswers, bandOpening, bandCalls, bandAnswers, fillOpening, fillCalls, fillAnswers, coverageOpening, coverageCalls, coverageAnswers, senderOpening, senderCalls, senderAnswers, ledgerRun, worked-examples, lentLeast, EngineAnswers, WorkedOnEngine}
+use Rattle.ledger.specs.Marked.{exampleOpening, exampleCalls, exampleAnswers, netOpening, netCalls, netAnswers, bandOpening, bandCalls, bandAnswers, fillOpening, fillCalls, fillAnswers, coverageOpening, coverageCalls, coverageAnswers, senderOpening, senderCalls, senderAnswers, remainderOpening, remainderCalls, remainderAnswers, ledgerRun, worked-examples, lentLeast, EngineAnswers, WorkedOnEngine}
 use Rattle.ledger.proofs.Choices.{check-passed}
 use Rattle.ledger.proofs.Verdicts.{left-none, left-of}
 use Rattle.ledger.proofs.Chosen.{every-append}
@@ -309,4 +309,5 @@ worked-on-engine = (
   engine-answers fillOpening fillCalls fillAnswers refl refl (worked-examples .3),
   engine-answers coverageOpening coverageCalls coverageAnswers refl refl (worked-examples .4),
   engine-answers senderOpening senderCalls senderAnswers refl refl (worked-examples .5),
+  engine-answers remainderOpening remainderCalls remainderAnswers refl refl (worked-examples .6),
 )

@@ -74,7 +74,7 @@ module _ (l : Ledger) (d c j : ℕ) where
 
 blank-is : NoShape blank
 unfolding blank
-blank-is = record { flagged = refl; no-value = refl; no-count = refl; no-origin = refl }
+blank-is = record { flagged = refl; no-value = refl; no-count = refl; no-origin = refl; no-remainder = refl }
 
 pub nearest-earlier : NearestEarlier
 nearest-earlier l d c j = (is-nearest l d c j, λ nothing. rw (is-none l d c j nothing) blank-is)
@@ -84,9 +84,9 @@ unfolding carried
 carried-exact a = (
   λ n.
       (elim (a .flag) as (λ f. a .flag ≡ f → CopyOf a (carried a)) [
-        | A ↦ λ q. rw q (record { flagged = refl; same-value = refl; same-count = refl; same-origin = refl })
-        | D ↦ λ q. rw q (record { flagged = refl; same-value = refl; same-count = refl; same-origin = refl })
-        | E ↦ λ q. rw q (record { flagged = refl; same-value = refl; same-count = refl; same-origin = refl })
+        | A ↦ λ q. rw q (record { flagged = refl; same-value = refl; same-count = refl; same-origin = refl; same-remainder = refl })
+        | D ↦ λ q. rw q (record { flagged = refl; same-value = refl; same-count = refl; same-origin = refl; same-remainder = refl })
+        | E ↦ λ q. rw q (record { flagged = refl; same-value = refl; same-count = refl; same-origin = refl; same-remainder = refl })
         | N ↦ λ q. absurd (n q)
       ]) refl,
   λ q. rw q blank-is,

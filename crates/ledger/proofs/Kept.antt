@@ -13,13 +13,13 @@ use borrow.Table.Steps.{cases}
 use borrow.Author.Tests.{eq-eqb, ne-eqb, eqb-true, eqb-false}
 use Rattle.metering.specs.Sum.{sumBelow}
 use Rattle.metering.specs.Calendar.{liesWithin, windowStart, windowEnd}
-use Rattle.ledger.specs.Method.{Fresh, absent, own, pooled, Cell, blank, ownCell, pooledCell, isOwnCell, carried, freshAmong, blanksAmong, oldestAmong, isFresh, isBlank}
+use Rattle.ledger.specs.Method.{Fresh, absent, own, pooled, N, Cell, blank, ownCell, pooledCell, isOwnCell, carried, freshAmong, blanksAmong, oldestAmong, isFresh, isBlank}
 use Rattle.ledger.specs.Table.{tabulate}
 use Rattle.ledger.specs.Sizes.{daysLength}
-use Rattle.ledger.specs.Store.{durationOf, categoriesOf, datesOf, periodsOf, rowLength, categoryOf, dayTypeOf, flagNumberOf, cellOfEntry, isRunAt, DayEntries, notRunEntries, dayEntryOf, totEntry, totAmong, offAmong, dayEntriesOf, countsOf}
+use Rattle.ledger.specs.Store.{categoriesOf, datesOf, periodsOf, rowLength, dayTypeOf, entryOf, NothingElse, flagNumberOf, cellOfEntry, isRunAt, DayEntries, notRunEntries, dayEntryOf, totEntry, totAmong, offAmong, dayEntriesOf, countsOf}
 use Rattle.ledger.specs.Calls.{freshAt, carriedEntry, rowEntry, rowAt, putRow, entriesFor, keptDays, Published, asPublished, publish, follows, lastRun, inheritedFrom, isOwn, followedEntry, inheritedBeyond, followRow, inheritedAfter, movedInRow, carryOn, settled, newRow, ranFrom}
 use Rattle.ledger.proofs.Lists.{sumBelow-cong, length-tabulate, getD-tabulate, block-below}
-use Rattle.ledger.proofs.Entries.{flag-some}
+use Rattle.ledger.proofs.Entries.{entry-some, blank-fits, carried-none}
 use Rattle.ledger.proofs.Walks.{length-putRow, row-put, row-kept, carryOn-end, carryOn-pass, carryOn-stop, carryOn-go}
 use Rattle.ledger.proofs.Days.{Few, DaysAre, days-cong, kept-length, kept-days, entries-few}
 
@@ -71,25 +71,26 @@ day-at-few s n cells h c x =
 
 -- one that a put left, or what is read as A or D
 abbrev Flagged : ℕ → Type 0
-Flagged e = eqb (flagNumberOf e) 0 ≡ false
+Flagged e = eqb e 0 ≡ false
+
+put-flagged : (a : Cell) → (a .flag ≡ N → NothingElse a) → Flagged (entryOf a)
+put-flagged a nothing = ne-eqb (entryOf a) 0 (entry-some a nothing)
 
 carried-flagged : (e : ℕ) → Flagged (carriedEntry e)
 unfolding carriedEntry
-carried-flagged e = flag-some (carried (cellOfEntry e))
+carried-flagged e = put-flagged (carried (cellOfEntry e)) (carried-none (cellOfEntry e))
 
 own-flagged : (e : ℕ) → isOwn e ≡ true → Flagged e
-unfolding isOwn isOwnCell cellOfEntry
-own-flagged e h =
-    ne-eqb (flagNumberOf e) 0
-    (λ z. let q : false ≡ true = rw z at h in absurd (true≢false (sym q)))
+unfolding isOwn isOwnCell cellOfEntry flagNumberOf
+own-flagged e h = ne-eqb e 0 (λ z. let q : false ≡ true = rw z at h in absurd (true≢false (sym q)))
 
 row-flagged : (d : ℕ) (f : Fresh) (e : ℕ) → Flagged e → Flagged (rowEntry d f e)
 row-flagged d absent e h = h
-row-flagged d (own v n) e h = flag-some (ownCell d v n)
-row-flagged d (pooled v n) e h = flag-some (pooledCell d v n)
+row-flagged d (own v n r) e h = put-flagged (ownCell d v n r) (λ none. absurd (let z : _≡_ {A = ℕ} 0 1 = cc in omega arith))
+row-flagged d (pooled v n r) e h = put-flagged (pooledCell d v n r) (λ none. absurd (let z : _≡_ {A = ℕ} 0 1 = cc in omega arith))
 
 inherited-flagged : (n : ℕ) (cells : List ℕ) (from : Option ℕ) (k : ℕ) → Flagged (inheritedFrom n cells from k)
-inherited-flagged n cells none k = flag-some blank
+inherited-flagged n cells none k = put-flagged blank (blank-fits .no-shape)
 inherited-flagged n cells (some d) k = carried-flagged (rowAt n cells d k)
 
 module _ (n : ℕ) (cells : List ℕ) (d : ℕ) (inherited : ℕ → ℕ) (k : ℕ) (h : Flagged (inherited k)) where
@@ -114,7 +115,7 @@ module _ (s : List ℕ) (C : ℕ) (few : periodsOf s ≤ 96) (d : ℕ) (h : d < 
   put : List ℕ
   put = putRow (C * P) d row cells
 
-  first-is : (xs : List ℕ) (x : ℕ) → isRunAt (C * P) xs x ≡ not (eqb (flagNumberOf (rowAt (C * P) xs x 0)) 0)
+  first-is : (xs : List ℕ) (x : ℕ) → isRunAt (C * P) xs x ≡ not (eqb (rowAt (C * P) xs x 0) 0)
   unfolding isRunAt rowAt
   first-is xs x = rw (add-zero (x * (C * P)))
 

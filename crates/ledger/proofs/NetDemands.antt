@@ -169,8 +169,8 @@ carried-blank a e =
 from-blank : (d : ℕ) (f : Fresh) (before : Cell) → cellFrom d f before .flag ≡ N → cellFrom d f before .value ≡ 0
 unfolding cellFrom
 from-blank d absent before e = carried-blank before e
-from-blank d (own v n) before e = absurd (let z : _≡_ {A = ℕ} 0 1 = cc in omega arith)
-from-blank d (pooled v n) before e = absurd (let z : _≡_ {A = ℕ} 0 1 = cc in omega arith)
+from-blank d (own v n r) before e = absurd (let z : _≡_ {A = ℕ} 0 1 = cc in omega arith)
+from-blank d (pooled v n r) before e = absurd (let z : _≡_ {A = ℕ} 0 1 = cc in omega arith)
 
 of-blank : (d : ℕ) (x : Day) (before : Cell) → cellOf d x before .flag ≡ N → cellOf d x before .value ≡ 0
 unfolding cellOf

@@ -15,12 +15,12 @@ use borrow.Author.Tests.{eq-eqb, ne-eqb, eqb-true, eqb-false, leb-true, leb-fals
 use Rattle.metering.specs.Sum.{sumBelow, sumBelow-suc}
 use Rattle.ledger.specs.Method.{Fresh, Cell, blank, carried, cellFrom, movedCell, Day, latest, cellOn}
 use Rattle.ledger.specs.Table.{tabulate}
-use Rattle.ledger.specs.Store.{categoriesOf, datesOf, rowLength, dayTypeOf, entryOf, flagNumberOf, isRunAt}
+use Rattle.ledger.specs.Store.{categoriesOf, datesOf, rowLength, dayTypeOf, entryOf, FitsEntry, isRunAt}
 use Rattle.ledger.specs.Calls.{carriedEntry, rowEntry, rowAt, putRow, Published, asPublished, publish, keptDays, follows, lastRun, inheritedFrom, comparedEntry, differing, Ran, followedEntry, inheritedBeyond, followRow, inheritedAfter, movedInRow, carryOn, movedByRow, settled}
 use Rattle.ledger.proofs.Lists.{below-suc, length-tabulate, getD-tabulate, sumBelow-cong, sumBelow-none, none-of-sum, sumBelow-more}
-use Rattle.ledger.proofs.Entries.{Small, SmallFresh, flag-some, entry-some, moved-entry, unmoved, moved-same, carry-entry, row-entry, follow-entry, over-entry}
+use Rattle.ledger.proofs.Entries.{FreshFits, entry-some, moved-entry, unmoved, moved-same, carry-entry, row-entry, follow-entry, over-entry}
 use Rattle.ledger.proofs.Walks.{length-putRow, row-put, row-kept, carryOn-end, carryOn-pass, carryOn-stop, carryOn-go}
-use Rattle.ledger.proofs.Columns.{dayIf, latest-other-type, latest-not-run, latest-run, cell-run, cell-not-run, latest-small, cell-small, latest-before, latest-other, latest-after, cell-alike}
+use Rattle.ledger.proofs.Columns.{dayIf, latest-other-type, latest-not-run, latest-run, cell-run, cell-not-run, latest-fits, cell-fits, latest-before, latest-other, latest-after, cell-alike}
 
 -- ---- what a column's cells are in the store
 
@@ -41,10 +41,10 @@ abbrev pub CellsAre : ℕ → ℕ → (ℕ → ℕ) → (ℕ → Bool) → (ℕ 
 CellsAre n T dt run fresh cells = (x k : ℕ) → x < T → k < n → rowAt n cells x k ≡ codeIf (run x) (columnCell dt run fresh k x)
 
 -- a date is run in the store where it is run
-pub run-at : (n : ℕ) (cells : List ℕ) (d : ℕ) (run : Bool) (a : Cell) → rowAt n cells d 0 ≡ codeIf run a → isRunAt n cells d ≡ run
+pub run-at : (n : ℕ) (cells : List ℕ) (d : ℕ) (run : Bool) (a : Cell) → FitsEntry a → rowAt n cells d 0 ≡ codeIf run a → isRunAt n cells d ≡ run
 unfolding isRunAt rowAt
-run-at n cells d true a e = rw (← (add-zero (d * n)), e, flag-some a)
-run-at n cells d false a e = rw (← (add-zero (d * n)), e) (unfold flagNumberOf in refl)
+run-at n cells d true a fit e = rw (← (add-zero (d * n)), e, ne-eqb (entryOf a) 0 (entry-some a (fit .no-shape)))
+run-at n cells d false a fit e = rw (← (add-zero (d * n)), e)
 
 -- what a run leaves: the new columns' cells, and how many of them all differ
 pub record RunLeaves (n T : ℕ) (dt : ℕ → ℕ) (runO runN : ℕ → Bool) (freshO freshN : ℕ → ℕ → Fresh) (L : ℕ) (r : Ran) : Type 0 where
@@ -54,10 +54,10 @@ pub record RunLeaves (n T : ℕ) (dt : ℕ → ℕ) (runO runN : ℕ → Bool) (
 
 -- ---- a run at a date: the pictures before and after are alike but there
 
-module _ (s : List ℕ) (n T : ℕ) (dt : ℕ → ℕ) (places : 0 < n) (few : T ≤ 65536) (rowIs : rowLength s ≡ n)
+module _ (s : List ℕ) (n T : ℕ) (dt : ℕ → ℕ) (places : 0 < n) (few : T ≤ 1024) (rowIs : rowLength s ≡ n)
     (types : (d : ℕ) → d < T → dayTypeOf s d ≡ dt d)
     (runO runN : ℕ → Bool) (freshO freshN : ℕ → ℕ → Fresh)
-    (smallO : (k x : ℕ) → SmallFresh (freshO k x)) (smallN : (k x : ℕ) → SmallFresh (freshN k x))
+    (fitsO : (k x : ℕ) → FreshFits (freshO k x)) (fitsN : (k x : ℕ) → FreshFits (freshN k x))
     (date : ℕ) (runAlike : (x : ℕ) → x ≢ date → runO x ≡ runN x) (freshAlike : (k x : ℕ) → x ≢ date → freshO k x ≡ freshN k x) where
   cellO : ℕ → ℕ → Cell
   cellO k d = columnCell dt runO freshO k d
@@ -74,21 +74,21 @@ module _ (s : List ℕ) (n T : ℕ) (dt : ℕ → ℕ) (places : 0 < n) (few : T
   alike : (k x : ℕ) → x ≢ date → columnDay runO freshO k x ≡ columnDay runN freshN k x
   alike k x h = rw (runAlike x h, freshAlike k x h)
 
-  cellO-small : (k d : ℕ) → d < T → Small (cellO k d)
+  cellO-fits : (k d : ℕ) → d < T → FitsEntry (cellO k d)
   unfolding cellO
-  cellO-small k d h = cell-small dt runO (freshO k) (smallO k) d (omega arith)
+  cellO-fits k d h = cell-fits dt runO (freshO k) (fitsO k) d (omega arith)
 
-  cellN-small : (k d : ℕ) → d < T → Small (cellN k d)
+  cellN-fits : (k d : ℕ) → d < T → FitsEntry (cellN k d)
   unfolding cellN
-  cellN-small k d h = cell-small dt runN (freshN k) (smallN k) d (omega arith)
+  cellN-fits k d h = cell-fits dt runN (freshN k) (fitsN k) d (omega arith)
 
-  latestO-small : (k t d : ℕ) → d < T → Small (latestO k t d)
+  latestO-fits : (k t d : ℕ) → d < T → FitsEntry (latestO k t d)
   unfolding latestO
-  latestO-small k t d h = latest-small dt runO (freshO k) (smallO k) t d (omega arith)
+  latestO-fits k t d h = latest-fits dt runO (freshO k) (fitsO k) t d (omega arith)
 
-  latestN-small : (k t d : ℕ) → d < T → Small (latestN k t d)
+  latestN-fits : (k t d : ℕ) → d < T → FitsEntry (latestN k t d)
   unfolding latestN
-  latestN-small k t d h = latest-small dt runN (freshN k) (smallN k) t d (omega arith)
+  latestN-fits k t d h = latest-fits dt runN (freshN k) (fitsN k) t d (omega arith)
 
   -- the cells of row d that moved
   movedOn : ℕ → ℕ
@@ -135,7 +135,7 @@ module _ (s : List ℕ) (n T : ℕ) (dt : ℕ → ℕ) (places : 0 < n) (few : T
     not-date e = let p = c .past in omega arith
 
     test-is : follows s (dt date) cells d ≡ (eqb (dt d) (dt date) && runO d)
-    test-is = rw (rowIs, types d h, run-at n cells d (runO d) (cellO 0 d) (c .old-rows d 0 (omega arith) h places))
+    test-is = rw (rowIs, types d h, run-at n cells d (runO d) (cellO 0 d) (cellO-fits 0 d h) (c .old-rows d 0 (omega arith) h places))
 
     -- a date that is passed over
     pass-come : (eqb (dt d) (dt date) && runO d) ≡ false → Come L inherited (suc d) cells moved
@@ -177,13 +177,13 @@ module _ (s : List ℕ) (n T : ℕ) (dt : ℕ → ℕ) (places : 0 < n) (few : T
       unfolding followRow followedEntry
       follow-is k l =
           rw (entry-old k l, c .inherited-beyond k l, new-is k)
-          (follow-entry d (latestO k (dt date) d) (latestN k (dt date) d) (omega arith) (latestO-small k (dt date) d h) (latestN-small k (dt date) d h) (freshO k d) (smallO k d))
+          (follow-entry d (latestO k (dt date) d) (latestN k (dt date) d) (omega arith) (latestO-fits k (dt date) d h) (latestN-fits k (dt date) d h) (freshO k d) (fitsO k d))
 
       over-is : (k : ℕ) → k < n → inheritedAfter n cells d inherited k ≡ entryOf (carried (latestN k (dt date) (suc d)))
       unfolding inheritedAfter inheritedBeyond
       over-is k l =
           rw (entry-old k l, c .inherited-beyond k l)
-          (over-entry d (latestO k (dt date) d) (latestN k (dt date) d) (omega arith) (latestO-small k (dt date) d h) (latestN-small k (dt date) d h) (freshO k d) (smallO k d)
+          (over-entry d (latestO k (dt date) d) (latestN k (dt date) d) (omega arith) (latestO-fits k (dt date) d h) (latestN-fits k (dt date) d h) (freshO k d) (fitsO k d)
           ∙ ap (λ a. entryOf (carried a)) (sym (next k)))
         where
           next : (k : ℕ) → latestN k (dt date) (suc d) ≡ cellFrom d (freshO k d) (latestN k (dt date) d)
@@ -193,7 +193,7 @@ module _ (s : List ℕ) (n T : ℕ) (dt : ℕ → ℕ) (places : 0 < n) (few : T
       unfolding movedInRow differing movedOn
       row-moved =
           sumBelow-cong n _ _
-          (λ k l. rw (c .old-rows d k (omega arith) h l, follow-is k l, r) (moved-entry (cellO k d) (cellN k d) (cellO-small k d h) (cellN-small k d h)))
+          (λ k l. rw (c .old-rows d k (omega arith) h l, follow-is k l, r) (moved-entry (cellO k d) (cellN k d) (cellO-fits k d h) (cellN-fits k d h)))
 
       fits : T * n ≤ L → d * n + n ≤ length cells
       fits room = rw (c .as-long) (omega (arith, mul-le-mul-right n h))
@@ -218,7 +218,7 @@ module _ (s : List ℕ) (n T : ℕ) (dt : ℕ → ℕ) (places : 0 < n) (few : T
       -- where nothing moved in the row, nothing moves after it
       still-same : movedInRow n cells d inherited ≡ 0 → (k : ℕ) → k < n → cellO k d ≡ cellN k d
       still-same z k l =
-          unmoved (cellO k d) (cellN k d) (cellO-small k d h) (cellN-small k d h)
+          unmoved (cellO k d) (cellN k d)
           (none-of-sum n (λ y. movedCell (cellO y d) (cellN y d)) (unfold movedOn in (sym row-moved ∙ z)) k l)
 
       met : (k : ℕ) → cellO k d ≡ cellN k d → latestO k (dt date) (suc d) ≡ latestN k (dt date) (suc d)
@@ -300,7 +300,7 @@ module _ (s : List ℕ) (n T : ℕ) (dt : ℕ → ℕ) (places : 0 < n) (few : T
   module _ (L : ℕ) (room : T * n ≤ L) (cells : List ℕ) (long : length cells ≡ L) (are : CellsAre n T dt runO freshO cells) where
     run-is : (d : ℕ) → d < T → isRunAt n cells d ≡ runO d
     unfolding cellO
-    run-is d h = run-at n cells d (runO d) (cellO 0 d) (are d 0 h places)
+    run-is d h = run-at n cells d (runO d) (cellO 0 d) (cellO-fits 0 d h) (are d 0 h places)
 
     old-entry : (d k : ℕ) → d < T → k < n → rowAt n cells d k ≡ codeIf (runO d) (cellO k d)
     unfolding cellO
@@ -314,7 +314,7 @@ module _ (s : List ℕ) (n T : ℕ) (dt : ℕ → ℕ) (places : 0 < n) (few : T
         (λ b.
         let p = and-eq-true-iff (eqb (dt d) t) (runO d) .0 b in
         rw (last-here t d h b)
-        (ap carriedEntry (old-entry d k h l ∙ rw (p .1)) ∙ carry-entry (cellO k d) (cellO-small k d h)
+        (ap carriedEntry (old-entry d k h l ∙ rw (p .1)) ∙ carry-entry (cellO k d) (cellO-fits k d h)
         ∙ ap (λ a. entryOf (carried a)) (here t d k (p .0) (p .1))))
         (λ b. rw (last-before t d h b) (over-from t d (omega arith) k l ∙ ap (λ a. entryOf (carried a)) (sym (before t d k b))))
       where
@@ -356,14 +356,14 @@ module _ (s : List ℕ) (n T : ℕ) (dt : ℕ → ℕ) (places : 0 < n) (few : T
       unfolding comparedEntry
       seen-is k l =
           cases (runO date)
-          (λ r. rw (old-entry date k h l, r, ne-eqb (entryOf (cellO k date)) 0 (entry-some (cellO k date))))
+          (λ r. rw (old-entry date k h l, r, ne-eqb (entryOf (cellO k date)) 0 (entry-some (cellO k date) (cellO-fits k date h .no-shape))))
           (λ r. rw (old-entry date k h l, r) (ap entryOf (sym (unfold cellO in cell-not-run dt (columnDay runO freshO k) 0 date (rw r)))))
 
       row-differs : differing n (λ k. comparedEntry (rowAt n cells date k)) new ≡ movedOn date
       unfolding differing movedOn
       row-differs =
           sumBelow-cong n _ _
-          (λ k l. rw (seen-is k l, new-entry k l) (moved-entry (cellO k date) (cellN k date) (cellO-small k date h) (cellN-small k date h)))
+          (λ k l. rw (seen-is k l, new-entry k l) (moved-entry (cellO k date) (cellN k date) (cellO-fits k date h) (cellN-fits k date h)))
 
       earlier-same : (x k : ℕ) → x < date → cellO k x ≡ cellN k x
       unfolding cellO cellN
@@ -387,7 +387,7 @@ module _ (s : List ℕ) (n T : ℕ) (dt : ℕ → ℕ) (places : 0 < n) (few : T
                 x l;
             old-rows = λ x k l m o. row-kept n date row cells size fits x k (λ (e : x ≡ date). omega arith) o ∙ old-entry x k m o;
             inherited-beyond = λ k l.
-                ap carriedEntry (new-entry k l) ∙ carry-entry (cellN k date) (cellN-small k date h) ∙ ap (λ a. entryOf (carried a)) (latest-is k);
+                ap carriedEntry (new-entry k l) ∙ carry-entry (cellN k date) (cellN-fits k date h) ∙ ap (λ a. entryOf (carried a)) (latest-is k);
             so-far =
                 row-differs
                 ∙ sym (sumBelow-suc date movedOn ∙ rw (sumBelow-none date movedOn (λ x l. moved-none x (λ k m. earlier-same x k l))) (zero-add (movedOn date)));

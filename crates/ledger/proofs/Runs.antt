@@ -17,37 +17,37 @@ use Rattle.ledger.specs.Method.{Category, isSmart, sameFamily, ReadingSe
 use Rattle.ledger.specs.Checks.{Registration, later, latestFrom, inForce}
 use Rattle.ledger.specs.Sizes.{cellsLength}
 use Rattle.ledger.specs.Ledger.{Opening, categories, dates, periods, category, dayType, Meter, Ledger, at, dayOf, cellBy, isPicture, heldSetsOf, pictureOf, movedBetween}
-use Rattle.ledger.specs.Store.{periodsOf, rowLength, categoryOf, cellOfEntry, isRunAt}
+use Rattle.ledger.specs.Store.{periodsOf, rowLength, categoryOf, FitsEntry, cellOfEntry, isRunAt}
 use Rattle.ledger.specs.Calls.{familyTally, freshAt, entriesFor, rowEntry, rowAt, lastRun, inheritedFrom, newRow, ranFrom, asPublished}
 use Rattle.ledger.proofs.Latest.{taken-or-left}
 use Rattle.ledger.proofs.Days.{days-cong}
 use Rattle.ledger.proofs.Kept.{entries-cong, dayAt, KeptIn, ran-keeps}
 use Rattle.ledger.proofs.Lists.{sumBelow-cong, sumBelow-rows, block-below}
-use Rattle.ledger.proofs.Entries.{Small, SmallFresh, cell-entry}
-use Rattle.ledger.proofs.Columns.{dayIf, cell-small}
+use Rattle.ledger.proofs.Entries.{FreshFits, cell-entry}
+use Rattle.ledger.proofs.Columns.{dayIf, cell-fits}
 use Rattle.ledger.proofs.Rows.{columnCell, run-at, RunLeaves, run-good}
 use Rattle.ledger.proofs.Relation.{Valid, SoundRegistrations, SoundMeters, SoundPicture, SettingsAgree, MetersAgree, ReadingsAgree, shapeOf, shapes, CellsAgree, dayBy, DaysAgree, Sound}
-use Rattle.ledger.proofs.Tallies.{count-le, sum-le, enough-some, average-small, family-total, tally-is}
+use Rattle.ledger.proofs.Tallies.{count-le, sum-le, average-fits, family-total, tally-is}
 
 -- ---- own shapes have room
 
-fresh-small : (smart : Bool) (m s n S K : ℕ) → s ≤ n * 4294967295 → n ≤ 1024 → S ≤ K * 4294967295 → K ≤ 1024 → SmallFresh (freshOf smart m s n S K)
+fresh-fits : (smart : Bool) (m s n S K : ℕ) → s ≤ n * 4294967295 → n ≤ 1024 → S ≤ K * 4294967295 → K ≤ 1024 → FreshFits (freshOf smart m s n S K)
 unfolding freshOf
-fresh-small smart m s n S K l few L k =
+fresh-fits smart m s n S K l few L k =
     cases (isEnough n m)
-    (λ e. rw e (average-small s n (enough-some n m e) l, omega arith))
+    (λ e. rw e (average-fits s n m e l few))
     (λ e.
     rw e
     (cases (smart && isEnough K m)
-    (λ q. rw q (average-small S K (enough-some K m (and-eq-true-iff smart (isEnough K m) .0 q .1)) L, omega arith))
+    (λ q. rw q (average-fits S K m (and-eq-true-iff smart (isEnough K m) .0 q .1) L k))
     (λ q. rw q tt)))
 
-picture-small : (C : ℕ) (categoryOf : ℕ → Category) (p : Picture) → SoundPicture C p → length p ≤ 1024 → (c j : ℕ) → SmallFresh (freshIn categoryOf p c j)
+picture-fits : (C : ℕ) (categoryOf : ℕ → Category) (p : Picture) → SoundPicture C p → length p ≤ 1024 → (c j : ℕ) → FreshFits (freshIn categoryOf p c j)
 unfolding freshIn
-picture-small C categoryOf p s few c j =
+picture-fits C categoryOf p s few c j =
     let n = count-le (eqb c) p j in
     let k = count-le (λ b. sameFamily (categoryOf c) (categoryOf b)) p j in
-    fresh-small (isSmart (categoryOf c)) (categoryOf c .deMinimis) _ _ _ _
+    fresh-fits (isSmart (categoryOf c)) (categoryOf c .deMinimis) _ _ _ _
     (sum-le C (eqb c) p j s)
     (omega arith)
     (sum-le C (λ b. sameFamily (categoryOf c) (categoryOf b)) p j s)
@@ -141,24 +141,24 @@ pub valid-periods : (o : Opening) → Valid o → (48 ≤ periods o) × (periods
 unfolding periodsPerDay
 valid-periods o v = ⊎-elim (λ e. rw e (omega arith, omega arith)) (λ e. rw e (omega arith, omega arith)) (v .duration)
 
-shapes-small : (o : Opening) (pictures : ℕ → Option Picture) →
-    ((d : ℕ) (p : Picture) → pictures d ≡ some p → SoundPicture (categories o) p × (length p ≤ 1024)) → (k x : ℕ) → SmallFresh (shapes o pictures k x)
-shapes-small o pictures sound k x = go (pictures x) refl
+shapes-fits : (o : Opening) (pictures : ℕ → Option Picture) →
+    ((d : ℕ) (p : Picture) → pictures d ≡ some p → SoundPicture (categories o) p × (length p ≤ 1024)) → (k x : ℕ) → FreshFits (shapes o pictures k x)
+shapes-fits o pictures sound k x = go (pictures x) refl
   where
-    go : (q : Option Picture) → pictures x ≡ q → SmallFresh (shapeOf (category o) (k / periods o) (suc (k % periods o)) q)
+    go : (q : Option Picture) → pictures x ≡ q → FreshFits (shapeOf (category o) (k / periods o) (suc (k % periods o)) q)
     go none e = tt
-    go (some p) e = picture-small (categories o) (category o) p (sound x p e .0) (sound x p e .1) (k / periods o) (suc (k % periods o))
+    go (some p) e = picture-fits (categories o) (category o) p (sound x p e .0) (sound x p e .1) (k / periods o) (suc (k % periods o))
 
 module _ (o : Opening) (pictures : ℕ → Option Picture) (valid : Valid o)
     (sound : (d : ℕ) (p : Picture) → pictures d ≡ some p → SoundPicture (categories o) p × (length p ≤ 1024)) where
   -- a column's cell has room
-  column-small : (d k : ℕ) → d < dates o → Small (columnCell (dayType o) (λ x. isPicture (pictures x)) (shapes o pictures) k d)
-  column-small d k hd =
+  column-fits : (d k : ℕ) → d < dates o → FitsEntry (columnCell (dayType o) (λ x. isPicture (pictures x)) (shapes o pictures) k d)
+  column-fits d k hd =
       let t = valid .dates-are in
-      cell-small (dayType o) (λ x. isPicture (pictures x)) (shapes o pictures k) (shapes-small o pictures sound k) d (omega arith)
+      cell-fits (dayType o) (λ x. isPicture (pictures x)) (shapes o pictures k) (shapes-fits o pictures sound k) d (omega arith)
 
   pub value-small : (d c k : ℕ) → d < dates o → k < periods o → cellBy o pictures d c (suc k) .value < 4294967296
-  value-small d c k hd hk = rw (column-is o pictures c k d hk) at (column-small d (c * periods o + k) hd .value)
+  value-small d c k hd hk = rw (column-is o pictures c k d hk) at (column-fits d (c * periods o + k) hd .value)
 
 -- ---- a recount of the store's cells is one of the ledger's
 
@@ -177,14 +177,14 @@ module _ (o : Opening) (s cells : List ℕ) (agree : SettingsAgree o s) (picture
   pub ran-is : (d : ℕ) → d < dates o → isRunAt (rowLength s) cells d ≡ isPicture (pictures d)
   ran-is d h =
       rw row-length
-      (run-at (categories o * periods o) cells d (isPicture (pictures d)) (columnCell (dayType o) (λ x. isPicture (pictures x)) (shapes o pictures) 0 d) (cellsAgree .are d 0 h some-places))
+      (run-at (categories o * periods o) cells d (isPicture (pictures d)) (columnCell (dayType o) (λ x. isPicture (pictures x)) (shapes o pictures) 0 d) (column-fits o pictures valid sound d 0 h) (cellsAgree .are d 0 h some-places))
 
   pub entry-is : (d c k : ℕ) → d < dates o → c < categories o → k < periods o → isPicture (pictures d) ≡ true →
       cellOfEntry (rowAt (categories o * periods o) cells d (c * periods o + k)) ≡ cellBy o pictures d c (suc k)
   entry-is d c k hd hc hk r =
       let place = c * periods o + k in
       ap cellOfEntry (cellsAgree .are d place hd (block-below (periods o) (categories o) c k hc hk) ∙ rw r)
-      ∙ cell-entry (columnCell (dayType o) (λ x. isPicture (pictures x)) (shapes o pictures) place d) (column-small o pictures valid sound d place hd)
+      ∙ cell-entry (columnCell (dayType o) (λ x. isPicture (pictures x)) (shapes o pictures) place d) (column-fits o pictures valid sound d place hd)
       ∙ column-is o pictures c k d hk
 
   recount-is : (c d : ℕ) → c < categories o → d < dates o → dayAt s (rowLength s) cells c d ≡ dayBy o pictures c d
@@ -254,7 +254,7 @@ module _ (l : Ledger) (s meters readings cells days : List ℕ) (sound : Sound l
   unfolding cellsLength
   room = cellsAgree .long
 
-  few-dates : dates (l .opening) ≤ 65536
+  few-dates : dates (l .opening) ≤ 1024
   few-dates = let d = sound .valid .dates-are in omega arith
 
   run-leaves :
@@ -267,8 +267,8 @@ module _ (l : Ledger) (s meters readings cells days : List ℕ) (sound : Sound l
       run-good s (categories (l .opening) * periods (l .opening)) (dates (l .opening)) (dayType (l .opening)) places few-dates row-is (agree .types)
       (λ d. isPicture (l .pictures d)) (λ d. isPicture (at date (some (pictureOf date (l .known))) (l .pictures) d))
       (shapes (l .opening) (l .pictures)) (shapes (l .opening) (at date (some (pictureOf date (l .known))) (l .pictures)))
-      (shapes-small (l .opening) (l .pictures) (sound .pictures-are))
-      (shapes-small (l .opening) (at date (some (pictureOf date (l .known))) (l .pictures)) after-sound)
+      (shapes-fits (l .opening) (l .pictures) (sound .pictures-are))
+      (shapes-fits (l .opening) (at date (some (pictureOf date (l .known))) (l .pictures)) after-sound)
       date run-alike shapes-alike (length cells) room cells refl (cellsAgree .are) (agree .dates-are) h new-run (newRow s meters readings cells date) new-is days
 
   -- the cells after it are those of the new pictures

@@ -8,10 +8,11 @@ use native.Mathlib.Omega.{arith}
 use native.Mathlib.Nat.{add-zero, zero-add, add-suc, suc-add}
 use lib.Dec.{leb, eqb}
 use lib.ListN.{length}
+use lib.Signed.{mag}
 use borrow.Author.Tests.{leb-true}
 use Rattle.metering.specs.Sum.{sumBelow}
-use Rattle.metering.specs.Average.{average}
-use Rattle.metering.specs.Laws.{average-le}
+use Rattle.metering.specs.Average.{average, remainder}
+use Rattle.metering.specs.Laws.{average-le, remainder-small}
 use Rattle.ledger.specs.Method.{ReadingSet, Picture, wattHours, present, total, isEnough}
 use Rattle.ledger.proofs.Lists.{sumBelow-cong, sumBelow-none, sumBelow-plus, sumBelow-front, sumBelow-one}
 use Rattle.ledger.specs.Checks.{Registration, inForce}
@@ -54,8 +55,14 @@ pub enough-some : (n m : ℕ) → isEnough n m ≡ true → 1 ≤ n
 unfolding isEnough
 enough-some n m e = leb-true 1 n (and-eq-true-iff (leb 1 n) (leb m n) .0 e .0)
 
-pub average-small : (s n : ℕ) → 1 ≤ n → s ≤ n * 4294967295 → average s n < 4294967296
+average-small : (s n : ℕ) → 1 ≤ n → s ≤ n * 4294967295 → average s n < 4294967296
 average-small s n h l = omega (arith, average-le s n 4294967295 h l)
+
+-- so an entry has room for an average over up to 1,024 readings
+pub average-fits : (s n m : ℕ) → isEnough n m ≡ true → s ≤ n * 4294967295 → n ≤ 1024 →
+    (average s n < 4294967296) × (1 ≤ n) × (n ≤ 1024) × (mag (remainder s n) < 512)
+average-fits s n m e l few =
+    let some = enough-some n m e in (average-small s n some l, some, few, omega (arith, remainder-small s n some))
 
 -- over a family: the sum of its categories' sums
 module _ (measure : Option ℕ → ℕ) (chosen : ℕ → Bool) (C j : ℕ) where

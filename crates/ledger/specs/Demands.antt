@@ -11,7 +11,8 @@ use lib.IntN.{ℤ, pos, negℤ, _+ℤ_, _-ℤ_}
 use Rattle.metering.specs.Mpan.{mpanValid}
 use Rattle.metering.specs.Calendar.{durationKnown, periodsPerDay}
 use Rattle.metering.specs.Sum.{sumBelow}
-use Rattle.ledger.specs.Method.{Category, sameFamily, Picture, absent, freshIn, Flag, A, D, E, N, flagNumber, Cell, carried, cellFrom, latest, Coverage}
+use Rattle.metering.specs.Average.{Rounded}
+use Rattle.ledger.specs.Method.{Category, sameFamily, Picture, wattHours, present, total, absent, freshIn, Flag, A, D, E, N, flagNumber, Cell, carried, cellFrom, latest, Coverage}
 use Rattle.ledger.specs.Table.{tabulate, chosenBelow}
 use Rattle.ledger.specs.Net.{activeImport, activeExport, onSide, sumOver, anyOf, netOn}
 use Rattle.ledger.specs.Band.{BandCall}
@@ -392,19 +393,21 @@ pub record Nearest (l : Ledger) (e d : ℕ) : Type 0 where
 abbrev pub takenOver : Ledger → ℕ → ℕ → ℕ → Cell
 takenOver l d c j = latest (dayType (l .opening)) (λ x. dayOf (category (l .opening)) c j (l .pictures x)) (dayType (l .opening) d) d
 
--- b copies a: value, count and origin, under flag E
+-- b copies a: value, count, origin and remainder, under flag E
 pub record CopyOf (a b : Cell) : Type 0 where
   pub flagged : b .flag ≡ E
   pub same-value : b .value ≡ a .value
   pub same-count : b .count ≡ a .count
   pub same-origin : b .origin ≡ a .origin
+  pub same-remainder : b .remainder ≡ a .remainder
 
--- flag N, value 0, count 0, origin 65535
+-- flag N, value 0, count 0, origin 65535, remainder 0
 pub record NoShape (a : Cell) : Type 0 where
   pub flagged : a .flag ≡ N
   pub no-value : a .value ≡ 0
   pub no-count : a .count ≡ 0
   pub no-origin : a .origin ≡ 65535
+  pub no-remainder : a .remainder ≡ pos 0
 
 -- it is the cell of the nearest earlier run date of its day type, and without a shape where there is none
 abbrev pub NearestEarlier : Type 0
@@ -549,7 +552,7 @@ abbrev pub SamePicturesSameCells : Type 0
 SamePicturesSameCells =
     (l m : Ledger) → l .opening ≡ m .opening → ((d : ℕ) → l .pictures d ≡ m .pictures d) → (d c j : ℕ) → cellAt l d c j ≡ cellAt m d c j
 
--- the origin of a copied cell is an earlier run date whose own cell is A or D, with the same value and count
+-- the origin of a copied cell is an earlier run date whose own cell is A or D, with the same value, count and remainder
 abbrev pub CopiesHaveOrigins : Type 0
 CopiesHaveOrigins =
     (l : Ledger) (d c j : ℕ) → cellAt l d c j .flag ≡ E →
@@ -557,7 +560,32 @@ CopiesHaveOrigins =
     × ((cellAt l (cellAt l d c j .origin) c j .flag ≡ A) ⊎ (cellAt l (cellAt l d c j .origin) c j .flag ≡ D))
     × (cellAt l (cellAt l d c j .origin) c j .value ≡ cellAt l d c j .value)
     × (cellAt l (cellAt l d c j .origin) c j .count ≡ cellAt l d c j .count)
+    × (cellAt l (cellAt l d c j .origin) c j .remainder ≡ cellAt l d c j .remainder)
     × (cellAt l d c j .origin < d)
+
+-- ---- What rounding dropped (change request 2026-04)
+
+-- a cell averages the chosen categories' readings of a date: its count is theirs, value times count makes up their sum with the remainder, and
+-- value and remainder are the only such pair
+pub record Averages (l : Ledger) (d : ℕ) (chosen : ℕ → Bool) (j : ℕ) (a : Cell) : Type 0 where
+  pub picture : Picture
+  pub is-picture : l .pictures d ≡ some picture
+  pub counts : a .count ≡ total present chosen picture j
+  pub rounds : Rounded (total wattHours chosen picture j) (a .count) (a .value) (a .remainder)
+
+abbrev pub familyOf : Ledger → ℕ → ℕ → Bool
+familyOf l c b = sameFamily (category (l .opening) c) (category (l .opening) b)
+
+-- an A cell averages its category's readings, a D cell its family's, and a copy what the cell at its origin does
+abbrev pub SumsShown : Type 0
+SumsShown =
+    (l : Ledger) (d c j : ℕ) →
+    let a = cellAt l d c j in
+    (a .flag ≡ A → Averages l d (eqb c) j a)
+    × (a .flag ≡ D → Averages l d (familyOf l c) j a)
+    × (a .flag ≡ E →
+    ((cellAt l (a .origin) c j .flag ≡ A) × Averages l (a .origin) (eqb c) j a)
+    ⊎ ((cellAt l (a .origin) c j .flag ≡ D) × Averages l (a .origin) (familyOf l c) j a))
 
 -- ---- Net reads (change request 2026-13)
 

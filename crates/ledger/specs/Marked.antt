@@ -1,4 +1,4 @@
--- The scope paper's marked list as one computed check; its worked example, one of nets, one of bands, one of fills, one of coverage and one of senders as computed runs of the ledger.
+-- The scope paper's marked list as one computed check; its worked example, one of nets, one of bands, one of fills, one of coverage, one of senders and one of remainders as computed runs of the ledger.
 use Prim.Native.Nat.{ℕ, zero, suc, _/_, _%_}
 use mathlib.Core.Path.{_≡_, refl}
 use mathlib.Core.Bool.{Bool, true, false, not, _&&_, Bool·beq}
@@ -9,10 +9,10 @@ use lib.IntN.{ℤ, pos, negsuc}
 use lib.ListN.{replicate}
 use Rattle.metering.specs.Sum.{sumBelow}
 use Rattle.metering.specs.Mpan.{mpanValid, checkDigit, weightedSum, product, digit, weights}
-use Rattle.metering.specs.Average.{average, annual}
+use Rattle.metering.specs.Average.{average, remainder, annual}
 use Rattle.metering.specs.Range.{between, dayTypeValid}
 use Rattle.metering.specs.Calendar.{periodsPerDay, periodEnding, liesWithin, windowStart, windowEnd}
-use Rattle.ledger.specs.Method.{Category, categoryAt, isSmart, sameFamily, HeldSet, Picture, total, isEnough, freshOf, freshIn, Cell, A, D, N, blank, carried, cellFrom, ran, afterDate, latest, cellOf, cellOn, sameCell, movedCell, overRunDates, freshAmong, blanksAmong, totOn, offOn, peakOn, totalsOn, originOf, oldestAmong, coverageOn}
+use Rattle.ledger.specs.Method.{Category, categoryAt, isSmart, sameFamily, HeldSet, Picture, total, isEnough, freshOf, freshIn, Flag, A, D, E, N, Cell, blank, carried, cellFrom, ran, afterDate, latest, cellOf, cellOn, sameCell, movedCell, overRunDates, freshAmong, blanksAmong, totOn, offOn, peakOn, totalsOn, originOf, oldestAmong, coverageOn}
 use Rattle.ledger.specs.Table.{tabulate, chosenBelow, firstFrom}
 use Rattle.ledger.specs.Net.{onSide, sideOf, sumOver, anyOf, signedSum, netPeriod, markOf, netTot, netTot7, netOn}
 use Rattle.ledger.specs.Band.{inBand, bandDates, bandOn}
@@ -58,11 +58,11 @@ markedList =
     && eqb (recordNumber 30 1 10 endsAtZero 0) 1005 && eqb (periodEnding 30 1440) 48
     && windowIs 30 2 2 15 && windowIs 15 2 3 30
     && sameCell (firstCell (twoGroups 0) []) blank
-    && sameCell (firstCell (twoGroups 3) (reads 0 100 ∷ reads 1 200 ∷ reads 1 600 ∷ [])) (record { flag = D; value = 300; count = 3; origin = 0 })
+    && sameCell (firstCell (twoGroups 3) (reads 0 100 ∷ reads 1 200 ∷ reads 1 600 ∷ [])) (record { flag = D; value = 300; count = 3; origin = 0; remainder = pos 0 })
     && eqb (annual 1000 3) 121667
 
 pub marked-list : markedList ≡ true
-unfolding markedList mpanValid checkDigit weightedSum product digit weights sumBelow average annual recordNumber periodEnding windowIs everyPeriod periodsPerDay liesWithin windowStart windowEnd between sameCell firstCell blank cellOn cellOf cellFrom latest freshIn freshOf isEnough total isSmart sameFamily anyBelow endMinute quality wattHoursAt carried recordNumberIf contentNumber
+unfolding markedList mpanValid checkDigit weightedSum product digit weights sumBelow average remainder annual recordNumber periodEnding windowIs everyPeriod periodsPerDay liesWithin windowStart windowEnd between sameCell firstCell blank cellOn cellOf cellFrom latest freshIn freshOf isEnough total isSmart sameFamily anyBelow endMinute quality wattHoursAt carried recordNumberIf contentNumber
 marked-list = refl
 
 -- ---- the worked example
@@ -433,8 +433,8 @@ senderAnswers =
     ∷ refused 1001 0
     ∷ accepted
     ∷ moved 1
-    ∷ cellIs (record { flag = A; value = 50; count = 1; origin = 1 })
-    ∷ cellIs (record { flag = N; value = 0; count = 0; origin = 65535 })
+    ∷ cellIs (record { flag = A; value = 50; count = 1; origin = 1; remainder = pos 0 })
+    ∷ cellIs (record { flag = N; value = 0; count = 0; origin = 65535; remainder = pos 0 })
     ∷ refused 1012 1
     ∷ accepted
     ∷ refused 1001 0
@@ -449,7 +449,75 @@ senderAnswers =
     ∷ refused 16 0
     ∷ []
 
--- ---- all six, computed
+-- ---- a worked example of remainders (change request 2026-04)
+
+-- the Smart import categories of groups A and B, two dates
+abbrev pub remainderOpening : Opening
+remainderOpening =
+    record {
+      duration = 30;
+      meters = 3;
+      categoryBytes =
+          1 ∷ 1 ∷ 1 ∷ 1 ∷ 1 ∷ 0 ∷ 0 ∷ 1
+          ∷ 1 ∷ 2 ∷ 1 ∷ 1 ∷ 1 ∷ 0 ∷ 0 ∷ 1
+          ∷ [];
+      dayTypes = 1 ∷ 1 ∷ [];
+    }
+
+-- three meters in category 0 have 10, 11 and 13 Wh in period 1; the third has 12 Wh later, and then none
+abbrev pub remainderCalls : List Call
+remainderCalls =
+    registers exampleMpan 0
+    ∷ registers otherMpan 0
+    ∷ registers 29 0
+    ∷ sends exampleMpan 0 1 (half 30 10 [])
+    ∷ sends otherMpan 0 1 (half 30 11 [])
+    ∷ sends 29 0 1 (half 30 13 [])
+    ∷ run 0
+    ∷ run 1
+    ∷ readCell 0 0 1
+    ∷ readCell 0 1 1
+    ∷ readCell 1 0 1
+    ∷ readCell 1 1 1
+    ∷ sends 29 0 1 (half 30 12 [])
+    ∷ run 0
+    ∷ readCell 0 0 1
+    ∷ readCell 1 1 1
+    ∷ sends 29 0 1 []
+    ∷ run 0
+    ∷ readCell 0 0 1
+    ∷ readCell 0 1 1
+    ∷ readCell 1 0 1
+    ∷ readCell 0 0 2
+    ∷ []
+
+-- a cell of value 11 that date 0 gave
+abbrev pub elevenOf : Flag → ℕ → ℤ → Answer
+elevenOf f n r = cellIs (record { flag = f; value = 11; count = n; origin = 0; remainder = r })
+
+-- 34 over 3, 33 over 3 and 21 over 2: what rounding drops alone moves all four cells
+abbrev pub remainderAnswers : List Answer
+remainderAnswers =
+    accepted ∷ accepted ∷ accepted ∷ accepted ∷ accepted ∷ accepted
+    ∷ moved 2
+    ∷ moved 2
+    ∷ elevenOf A 3 (pos 1)
+    ∷ elevenOf D 3 (pos 1)
+    ∷ elevenOf E 3 (pos 1)
+    ∷ elevenOf E 3 (pos 1)
+    ∷ accepted
+    ∷ moved 4
+    ∷ elevenOf A 3 (pos 0)
+    ∷ elevenOf E 3 (pos 0)
+    ∷ accepted
+    ∷ moved 4
+    ∷ elevenOf A 2 (negsuc 0)
+    ∷ elevenOf D 2 (negsuc 0)
+    ∷ elevenOf E 2 (negsuc 0)
+    ∷ cellIs (record { flag = N; value = 0; count = 0; origin = 65535; remainder = pos 0 })
+    ∷ []
+
+-- ---- all seven, computed
 
 pub worked-examples :
     (ledgerRun (start exampleOpening) (leastLengths exampleOpening) exampleCalls ≡ exampleAnswers)
@@ -458,8 +526,9 @@ pub worked-examples :
     × (ledgerRun (start fillOpening) (leastLengths fillOpening) fillCalls ≡ fillAnswers)
     × (ledgerRun (start coverageOpening) (leastLengths coverageOpening) coverageCalls ≡ coverageAnswers)
     × (ledgerRun (start senderOpening) (leastLengths senderOpening) senderCalls ≡ senderAnswers)
-unfolding ledgerRun start ledgerAnswer ledgerAfter answer left settingsShort metersShort cellsShort anyShort meterWith changed heldFrom ledgerRegistrationCheck registerIn afterRegistration ledgerReceptionCheck setOf at afterReception cellBy cellAt isRun ledgerRunCheck pictureOf afterRun movedBetween ledgerTotalsCheck ledgerCellCheck totalsAt settingsLength metersLength readingsLength cellsLength firstFailed momentOf startOf starts later latestFrom inForce appointed notAfterLast meterNumber registrationCheck bodyCheck inForceCheck receptionCheck isReading readingIn runCheck readCheck totalsInRange cellInRange movedCell overRunDates totOn offOn peakOn totalsOn categoryAt mpanValid checkDigit weightedSum product digit weights sumBelow average annual recordNumber periodEnding periodsPerDay liesWithin windowStart windowEnd between sameCell blank cellOn cellOf cellFrom latest afterDate freshIn freshOf isEnough total isSmart sameFamily anyBelow endMinute quality wattHoursAt carried netCheck listsShort mayNet ledgerNetCheck sideAt netAt onSide chosenBelow sideOf sumOver anyOf signedSum netPeriod markOf netTot netTot7 netOn tabulate orElse firstNumber callNumber fieldsNumber knownNumber headerNumber recordNumberIf contentNumber bandCheck ledgerBandCheck bandAt bandOn bandDates inBand dayTypeValid fillCheck ledgerFillCheck shapeAt weightAt fillAt isOptedOutShape shapeCategory firstFrom weightBy mayFill comesBefore countBefore wholePart remainderOf leftOver filledValue filledValues daysLength daysShort ledgerCoverageCheck coverageAt freshAmong blanksAmong originOf oldestAmong coverageOn
-worked-examples = (refl, refl, refl, refl, refl, refl)
+    × (ledgerRun (start remainderOpening) (leastLengths remainderOpening) remainderCalls ≡ remainderAnswers)
+unfolding ledgerRun start ledgerAnswer ledgerAfter answer left settingsShort metersShort cellsShort anyShort meterWith changed heldFrom ledgerRegistrationCheck registerIn afterRegistration ledgerReceptionCheck setOf at afterReception cellBy cellAt isRun ledgerRunCheck pictureOf afterRun movedBetween ledgerTotalsCheck ledgerCellCheck totalsAt settingsLength metersLength readingsLength cellsLength firstFailed momentOf startOf starts later latestFrom inForce appointed notAfterLast meterNumber registrationCheck bodyCheck inForceCheck receptionCheck isReading readingIn runCheck readCheck totalsInRange cellInRange movedCell overRunDates totOn offOn peakOn totalsOn categoryAt mpanValid checkDigit weightedSum product digit weights sumBelow average remainder annual recordNumber periodEnding periodsPerDay liesWithin windowStart windowEnd between sameCell blank cellOn cellOf cellFrom latest afterDate freshIn freshOf isEnough total isSmart sameFamily anyBelow endMinute quality wattHoursAt carried netCheck listsShort mayNet ledgerNetCheck sideAt netAt onSide chosenBelow sideOf sumOver anyOf signedSum netPeriod markOf netTot netTot7 netOn tabulate orElse firstNumber callNumber fieldsNumber knownNumber headerNumber recordNumberIf contentNumber bandCheck ledgerBandCheck bandAt bandOn bandDates inBand dayTypeValid fillCheck ledgerFillCheck shapeAt weightAt fillAt isOptedOutShape shapeCategory firstFrom weightBy mayFill comesBefore countBefore wholePart remainderOf leftOver filledValue filledValues daysLength daysShort ledgerCoverageCheck coverageAt freshAmong blanksAmong originOf oldestAmong coverageOn
+worked-examples = (refl, refl, refl, refl, refl, refl, refl)
 
 -- ---- the same on the engine, from its opening on
 
@@ -472,7 +541,7 @@ abbrev pub EngineAnswers : Opening → List Call → List Answer → Type 0
 EngineAnswers a calls answers =
     (p : Parts) → lengthsOf p ≡ leastLengths a → Accepts p a × (storeAnswers (openedParts p a) (lentLeast a calls) ≡ answers)
 
--- all six examples
+-- all seven examples
 abbrev pub WorkedOnEngine : Type 0
 WorkedOnEngine =
     EngineAnswers exampleOpening exampleCalls exampleAnswers
@@ -481,3 +550,4 @@ WorkedOnEngine =
     × EngineAnswers fillOpening fillCalls fillAnswers
     × EngineAnswers coverageOpening coverageCalls coverageAnswers
     × EngineAnswers senderOpening senderCalls senderAnswers
+    × EngineAnswers remainderOpening remainderCalls remainderAnswers

@@ -6,9 +6,10 @@ use mathlib.Core.Bool.{Bool, true, false, _&&_, cond}
 use mathlib.Core.List.{List, [], _∷_}
 use mathlib.Core.Option.{Option, none, some}
 use lib.Dec.{leb, eqb}
+use lib.IntN.{ℤ, pos, negsuc}
 use lib.ListN.{getD}
 use Rattle.metering.specs.Sum.{sumBelow}
-use Rattle.metering.specs.Average.{average, annual}
+use Rattle.metering.specs.Average.{average, remainder, annual}
 use Rattle.metering.specs.Calendar.{liesWithin, windowStart, windowEnd}
 
 -- ---- categories (000, 3.1; 003 for Advanced)
@@ -73,11 +74,12 @@ total measure chosen (e ∷ es) j = cond (chosen (e .category)) (measure (e .rea
 
 -- ---- one date's own shape (000, 5, 6 and 9)
 
--- what a date's own readings give for a category and period: the average of its readings, the average over the family, or nothing
+-- what a date's own readings give for a category and period: the average of its readings, the average over the family, or nothing; an
+-- average is its value, the count, and the remainder that rounding dropped
 pub data Fresh : Type 0 where
   absent : Fresh
-  own : ℕ → ℕ → Fresh
-  pooled : ℕ → ℕ → Fresh
+  own : ℕ → ℕ → ℤ → Fresh
+  pooled : ℕ → ℕ → ℤ → Fresh
 
 -- a count that gives a shape: at least one reading, and it reaches the de-minimis m
 unfoldable pub isEnough : ℕ → ℕ → Bool
@@ -86,7 +88,8 @@ isEnough n m = leb 1 n && leb m n
 -- s and n over the category, S and K over the family, m the category's de-minimis: own where n is enough (000, 5.1 and 9.1), else pooled
 -- where the category is Smart and K is enough by the same m (000, 6.1). Averages are whole Wh, halves up (house).
 unfoldable pub freshOf : Bool → ℕ → ℕ → ℕ → ℕ → ℕ → Fresh
-freshOf smart m s n S K = cond (isEnough n m) (own (average s n) n) (cond (smart && isEnough K m) (pooled (average S K) K) absent)
+freshOf smart m s n S K =
+    cond (isEnough n m) (own (average s n) n (remainder s n)) (cond (smart && isEnough K m) (pooled (average S K) K (remainder S K)) absent)
 
 -- the same from a picture; S is over single readings, never over regional averages
 unfoldable pub freshIn : (ℕ → Category) → Picture → ℕ → ℕ → Fresh
@@ -107,37 +110,38 @@ pub record Cell : Type 0 where
   pub value : ℕ
   pub count : ℕ
   pub origin : ℕ
+  pub remainder : ℤ
 
--- no shape: flag N, value 0, count 0, origin 65535 (house; 000, 8.1 has flag B and value 1)
+-- no shape: flag N, value 0, count 0, origin 65535, remainder 0 (house; 000, 8.1 has flag B and value 1)
 unfoldable pub blank : Cell
-blank = record { flag = N; value = 0; count = 0; origin = 65535 }
+blank = record { flag = N; value = 0; count = 0; origin = 65535; remainder = pos 0 }
 
 -- the cells that date d's own readings give: its category's average under flag A (000, 5.1), its family's under flag D (000, 6.1)
-abbrev pub ownCell : ℕ → ℕ → ℕ → Cell
-ownCell d v n = record { flag = A; value = v; count = n; origin = d }
+abbrev pub ownCell : ℕ → ℕ → ℕ → ℤ → Cell
+ownCell d v n r = record { flag = A; value = v; count = n; origin = d; remainder = r }
 
-abbrev pub pooledCell : ℕ → ℕ → ℕ → Cell
-pooledCell d v k = record { flag = D; value = v; count = k; origin = d }
+abbrev pub pooledCell : ℕ → ℕ → ℕ → ℤ → Cell
+pooledCell d v k r = record { flag = D; value = v; count = k; origin = d; remainder = r }
 
 -- whether a cell is its date's own shape: flag A or D
 unfoldable pub isOwnCell : Cell → Bool
 isOwnCell a = elim (a .flag) [ A ↦ true | D ↦ true | E ↦ false | N ↦ false ]
 
--- what a later date without a shape of its own takes over: value, count and origin under flag E (000, 7.1 and 7.3), and nothing from nothing
+-- what a later date without a shape of its own takes over: value, count, origin and remainder under flag E (000, 7.1 and 7.3), and nothing from nothing
 unfoldable pub carried : Cell → Cell
 unfolding blank
 carried a = elim (a .flag) [
-  | A ↦ record { flag = E; value = a .value; count = a .count; origin = a .origin }
-  | D ↦ record { flag = E; value = a .value; count = a .count; origin = a .origin }
-  | E ↦ record { flag = E; value = a .value; count = a .count; origin = a .origin }
+  | A ↦ record { flag = E; value = a .value; count = a .count; origin = a .origin; remainder = a .remainder }
+  | D ↦ record { flag = E; value = a .value; count = a .count; origin = a .origin; remainder = a .remainder }
+  | E ↦ record { flag = E; value = a .value; count = a .count; origin = a .origin; remainder = a .remainder }
   | N ↦ blank
 ]
 
 -- the cell of a run date d, from its own shape and the cell of its predecessor
 unfoldable pub cellFrom : ℕ → Fresh → Cell → Cell
 cellFrom d absent before = carried before
-cellFrom d (own v n) before = ownCell d v n
-cellFrom d (pooled v k) before = pooledCell d v k
+cellFrom d (own v n r) before = ownCell d v n r
+cellFrom d (pooled v k r) before = pooledCell d v k r
 
 -- a date as one category and period sees it: not run, or run with its own shape
 pub data Day : Type 0 where
@@ -166,7 +170,7 @@ abbrev pub flagNumber : Flag → ℕ
 flagNumber A = 1
 flagNumber D = 2
 flagNumber E = 3
-flagNumber N = 4
+flagNumber N = 0
 
 -- a flag's letter in ASCII
 abbrev pub letterOf : Flag → ℕ
@@ -175,9 +179,17 @@ letterOf D = 68
 letterOf E = 69
 letterOf N = 78
 
--- whether value, flag, count and origin are all alike
+abbrev pub sameInteger : ℤ → ℤ → Bool
+sameInteger (pos a) (pos b) = eqb a b
+sameInteger (pos a) (negsuc b) = false
+sameInteger (negsuc a) (pos b) = false
+sameInteger (negsuc a) (negsuc b) = eqb a b
+
+-- whether value, flag, count, origin and remainder are all alike
 unfoldable pub sameCell : Cell → Cell → Bool
-sameCell a b = eqb (flagNumber (a .flag)) (flagNumber (b .flag)) && eqb (a .value) (b .value) && eqb (a .count) (b .count) && eqb (a .origin) (b .origin)
+sameCell a b =
+    eqb (flagNumber (a .flag)) (flagNumber (b .flag)) && eqb (a .value) (b .value) && eqb (a .count) (b .count) && eqb (a .origin) (b .origin)
+    && sameInteger (a .remainder) (b .remainder)
 
 -- the paper's "moved" for one cell: 1 where it differs, else 0
 unfoldable pub movedCell : Cell → Cell → ℕ

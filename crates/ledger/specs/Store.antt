@@ -1,11 +1,15 @@
 -- The store's layout: how each thing is read off the lent parts, whatever lists they are, and how it is written there.
-use Prim.Native.Nat.{ℕ, zero, suc, _+_, _-_, _*_, _/_, _%_}
+use Prim.Native.Nat.{ℕ, zero, suc, _+_, _-_, _*_, _/_, _%_, _≤_, _<_}
+use mathlib.Core.Path.{_≡_}
+use mathlib.Core.Logic.{_≢_}
 use mathlib.Core.Bool.{Bool, not, _&&_, _||_, cond}
 use mathlib.Core.List.{List, [], _∷_, _++_}
 use mathlib.Core.Option.{Option, none, some}
 use lib.Dec.{leb, ltb, eqb}
+use lib.IntN.{ℤ, pos, negsuc, _-ℤ_}
 use lib.ListN.{length, getD, set, drop}
 use lib.Seq.{sets}
+use lib.Signed.{mag}
 use Rattle.metering.specs.Range.{metersInRange, categoriesInRange, datesInRange}
 use Rattle.metering.specs.Sum.{sumBelow}
 use Rattle.metering.specs.Average.{annual}
@@ -134,28 +138,64 @@ readingOf e = cond (eqb (e / 4294967296 % 2) 1) (some (e % 4294967296)) none
 unfoldable pub readingAt : ℕ → ℕ → List ℕ → ℕ → ℕ → ℕ → Option ℕ
 readingAt M P readings d i j = readingOf (getD readings (setIndex M P d i + j) 0)
 
--- ---- cells: for each date, category and period an entry, flag + 8 count + 2 ^ 16 origin + 2 ^ 32 value; 0 on a date not run.
--- `entryOf` puts and `cellOfEntry` reads; what else is done with an entry is said by these.
+-- ---- cells: for each date, category and period an entry, 0 on a date not run. Its upper half is the value; below stand the remainder plus
+-- 512 in 10 bits, origin in 10, count less one in 10, and the flag's number in 2. N is flag 0 with remainder 0 and nothing else. An entry with
+-- flag 0 that no put gave reads as N with its value. `entryOf` puts and `cellOfEntry` reads; what else is done with an entry is said by these.
+
+-- a remainder from −512 to 511, plus 512
+abbrev pub remainderBits : ℤ → ℕ
+remainderBits (pos n) = 512 + n
+remainderBits (negsuc n) = 511 - n
+
+unfoldable pub countAndOrigin : Cell → ℕ
+countAndOrigin a = elim (a .flag) [
+  | A ↦ 4 * (a .count - 1) + 4096 * a .origin
+  | D ↦ 4 * (a .count - 1) + 4096 * a .origin
+  | E ↦ 4 * (a .count - 1) + 4096 * a .origin
+  | N ↦ 0
+]
 
 unfoldable pub entryOf : Cell → ℕ
-entryOf a = flagNumber (a .flag) + 8 * a .count + 65536 * a .origin + 4294967296 * a .value
+entryOf a = flagNumber (a .flag) + countAndOrigin a + 4194304 * remainderBits (a .remainder) + 4294967296 * a .value
+
+-- what an entry has room for
+abbrev pub ShapeFits : Cell → Type 0
+ShapeFits a = (1 ≤ a .count) × (a .count ≤ 1024) × (a .origin < 1024) × (mag (a .remainder) < 512)
+
+abbrev pub NothingElse : Cell → Type 0
+NothingElse a = (a .count ≡ 0) × (a .origin ≡ 65535) × (a .remainder ≡ pos 0)
+
+pub record FitsEntry (a : Cell) : Type 0 where
+  pub value : a .value < 4294967296
+  pub shape : a .flag ≢ N → ShapeFits a
+  pub no-shape : a .flag ≡ N → NothingElse a
 
 abbrev pub flagOf : ℕ → Flag
 flagOf n = cond (eqb n 1) A (cond (eqb n 2) D (cond (eqb n 3) E N))
 
 unfoldable pub flagNumberOf : ℕ → ℕ
-flagNumberOf e = e % 8
+flagNumberOf e = e % 4
+
+-- with flag 0 there is no shape
+abbrev pub ifShape : {X : Type 0} → ℕ → X → X → X
+ifShape e shape otherwise = cond (eqb (flagNumberOf e) 0) otherwise shape
 
 unfoldable pub cellOfEntry : ℕ → Cell
 cellOfEntry e =
-    record { flag = flagOf (flagNumberOf e); value = e / 4294967296; count = e / 8 % 8192; origin = e / 65536 % 65536 }
+    record {
+      flag = flagOf (flagNumberOf e);
+      value = e / 4294967296;
+      count = ifShape e (e / 4 % 1024 + 1) 0;
+      origin = ifShape e (e / 4096 % 1024) 65535;
+      remainder = ifShape e (pos (e / 4194304 % 1024) -ℤ pos 512) (pos 0);
+    }
 
 unfoldable pub cellIndex : ℕ → ℕ → ℕ → ℕ → ℕ → ℕ
 cellIndex C P d c j = d * (C * P) + (c * P + (j - 1))
 
--- a date is run where the flag of its first cell is not 0; n is a date's number of cells
+-- a date is run where the entry of its first cell is not 0; n is a date's number of cells
 unfoldable pub isRunAt : ℕ → List ℕ → ℕ → Bool
-isRunAt n cells d = not (eqb (flagNumberOf (getD cells (d * n) 0)) 0)
+isRunAt n cells d = not (eqb (getD cells (d * n) 0) 0)
 
 -- ---- days: for each category four rows of T entries, one of each for a date: the day, its sums, TOT and OFF. The day of a run
 -- date is FRESH + 2 ^ 16 BLANK + 2 ^ 32 oldest origin + 2 ^ 48, and TOT stands as TOT + 2 ^ 48, so that adding TOT of dates counts

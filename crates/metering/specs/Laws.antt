@@ -1,15 +1,17 @@
 -- Laws of the definitions, for the layers above: what they may use without opening a definition.
-use Prim.Native.Nat.{ℕ, _+_, _*_, _%_, _-_, _≤_, _<_}
-use mathlib.Core.Path.{_≡_, sym, _∙_}
+use Prim.Native.Nat.{ℕ, zero, suc, _+_, _*_, _%_, _-_, _≤_, _<_}
+use mathlib.Core.Path.{_≡_, refl, sym, ap, _∙_}
 use mathlib.Core.Logic.{_↔_, _≢_, _⊎_, inl, inr, ⊎-elim}
 use mathlib.Core.Bool.{Bool, true, false, not, _&&_, and-eq-true-iff}
 use native.Mathlib.Nat.{mul-div-le, lt-mul-div-succ, div-eq-of-lt-le, div-lt-iff-lt-mul, div-one, div-add-mod', div-mul-le-self, le-div-iff-mul-le, le-trans, add-zero, mul-pos, mul-mod-left, mul-div-cancel, le-of-mul-le-mul-right, mul-le-mul-left, mul-le-mul-right}
 use native.Mathlib.Omega.{arith}
 use lib.ListN.{getD}
-use lib.Dec.{eqb, leb, leb·zero}
+use lib.Dec.{eqb, leb, ltb, leb·zero, leb→le, le→leb, ltb→lt, lt→ltb}
+use lib.IntN.{ℤ, pos, negℤ, subℕ, _+ℤ_, _-ℤ_, +ℤ-comm, +ℤ-negℤ-cancel, -ℤ-+ℤ-cancel}
+use lib.Signed.{mag, _≤ℤ_, _<ℤ_}
 use borrow.Table.Steps.{cases}
-use borrow.Author.Tests.{leb-true, le-leb, lt-leb, eqb-true, eq-eqb, ne-eqb, not-true, not-false}
-use Rattle.metering.specs.Average.{average, annual}
+use borrow.Author.Tests.{leb-true, le-leb, lt-leb, ltb-true, ltb-false, lt-ltb, le-ltb, eqb-true, eq-eqb, ne-eqb, not-true, not-false}
+use Rattle.metering.specs.Average.{average, remainder, Rounded, annual}
 use Rattle.metering.specs.Calendar.{durationKnown, periodsPerDay, periodEnding, liesWithin, windowStart, windowEnd}
 use Rattle.metering.specs.Sum.{sumBelow, sumBelow-le}
 use Rattle.metering.specs.Mpan.{weights, digit, product, weightedSum, mpanValid}
@@ -60,6 +62,94 @@ unfolding average
 average-le s n b h k =
     let less : average s n < b + 1 = div-lt-iff-lt-mul {k = 2 * n} {x = 2 * s + n} {y = b + 1} (omega arith) .1 (omega arith) in
     omega arith
+
+-- a difference of two numbers, by which of them is less
+pub minus-is : (a b : ℕ) → pos a -ℤ pos b ≡ subℕ a b
+minus-is a zero = let same : a + 0 ≡ a - 0 = omega arith in rw (le-ltb a 0 (omega arith), same)
+minus-is a (suc b) = refl
+
+-- it is what makes up the one with the other
+minus-makes-up : (a b : ℕ) (r : ℤ) → (pos b +ℤ r ≡ pos a) ↔ (r ≡ pos a -ℤ pos b)
+minus-makes-up a b r = (
+  λ e. sym (+ℤ-negℤ-cancel r (pos b)) ∙ ap (λ x. x -ℤ pos b) (+ℤ-comm r (pos b) ∙ e),
+  λ e. +ℤ-comm (pos b) r ∙ ap (λ x. x +ℤ pos b) e ∙ -ℤ-+ℤ-cancel (pos a) (pos b),
+)
+
+-- twice a difference, between minus a count and the count
+minus-doubled : (a b n : ℕ) → let r = subℕ a b in
+    ((negℤ (pos (suc n)) ≤ℤ (r +ℤ r)) × ((r +ℤ r) <ℤ pos (suc n))) ↔ ((2 * a < 2 * b + suc n) × (2 * b ≤ 2 * a + suc n))
+minus-doubled a b n =
+    cases (ltb a b)
+    (λ q.
+    let less = ltb-true a b q in
+    rw q (
+      λ h. let low = leb→le (suc (b - suc a + (b - suc a))) n (h .0 .le) in (omega arith, omega arith),
+      λ h. (record { le = le→leb (suc (b - suc a + (b - suc a))) n (omega arith) }, record { lt = tt }),
+    ))
+    (λ q.
+    let least = ltb-false a b q in
+    rw q (
+      λ h. let low = ltb→lt (a - b + (a - b)) (suc n) (h .1 .lt) in (omega arith, omega arith),
+      λ h. (record { le = tt }, record { lt = lt→ltb (a - b + (a - b)) (suc n) (omega arith) }),
+    ))
+
+-- two differences are one where what is added makes up for what is taken away
+minus-same : (a b c d : ℕ) → a + d ≡ c + b → subℕ a b ≡ subℕ c d
+minus-same a b c d e =
+    cases (ltb a b)
+    (λ q.
+    let less = ltb-true a b q in
+    let same : b - suc a ≡ d - suc c = omega arith in
+    rw (q, lt-ltb c d (omega arith), same))
+    (λ q.
+    let least = ltb-false a b q in
+    let same : a - b ≡ c - d = omega arith in
+    rw (q, le-ltb c d (omega arith), same))
+
+-- the remainder of an average v, and a difference that it is
+remainder-by : (s n v : ℕ) → v ≡ average s n → remainder s n ≡ pos s -ℤ pos (v * n)
+unfolding remainder
+remainder-by s n v e = rw (← e)
+
+pub remainder-is : (s n v a b : ℕ) → v ≡ average s n → a + v * n ≡ s + b → pos a -ℤ pos b ≡ remainder s n
+remainder-is s n v a b value e = minus-is a b ∙ minus-same a b s (v * n) e ∙ sym (remainder-by s n v value ∙ minus-is s (v * n))
+
+-- average and remainder are such a pair, and the only one
+pub rounded-is : (s n value : ℕ) (dropped : ℤ) → 0 < n → Rounded s n value dropped ↔ ((value ≡ average s n) × (dropped ≡ remainder s n))
+rounded-is s zero v r h = absurd (omega arith)
+rounded-is s (suc n) v r h = (to, from)
+  where
+    doubled : ((negℤ (pos (suc n)) ≤ℤ (subℕ s (v * suc n) +ℤ subℕ s (v * suc n))) × ((subℕ s (v * suc n) +ℤ subℕ s (v * suc n)) <ℤ pos (suc n)))
+        ↔ (v ≡ average s (suc n))
+    doubled =
+        let bounds = minus-doubled s (v * suc n) n in
+        let law = average-is s (suc n) v h in (
+          λ x. let y = bounds .0 x in law .0 (omega arith, omega arith),
+          λ x. let y = law .1 x in bounds .1 (omega arith, omega arith),
+        )
+
+    to : Rounded s (suc n) v r → (v ≡ average s (suc n)) × (r ≡ remainder s (suc n))
+    to x =
+        let is : r ≡ subℕ s (v * suc n) = minus-makes-up s (v * suc n) r .0 (x .makes-up) ∙ minus-is s (v * suc n) in
+        let value : v ≡ average s (suc n) = doubled .0 (rw (← is) (x .at-least, x .below)) in
+        (value, minus-makes-up s (v * suc n) r .0 (x .makes-up) ∙ sym (remainder-by s (suc n) v value))
+
+    from : (v ≡ average s (suc n)) × (r ≡ remainder s (suc n)) → Rounded s (suc n) v r
+    from x =
+        let minus : r ≡ pos s -ℤ pos (v * suc n) = x .1 ∙ remainder-by s (suc n) v (x .0) in
+        let is : r ≡ subℕ s (v * suc n) = minus ∙ minus-is s (v * suc n) in
+        let both = doubled .1 (x .0) in
+        record { makes-up = minus-makes-up s (v * suc n) r .1 minus; at-least = rw is (both .0); below = rw is (both .1) }
+
+-- so 10 bits hold the remainder over a count of up to 1,024 (`mag r` is n both for n and for −(n + 1))
+pub remainder-small : (s n : ℕ) → 0 < n → 2 * mag (remainder s n) < n
+unfolding remainder
+remainder-small s n h =
+    let b = average-is s n (average s n) h .1 refl in
+    rw (minus-is s (average s n * n))
+    (cases (ltb s (average s n * n))
+    (λ q. let less = ltb-true s (average s n * n) q in rw q (omega arith))
+    (λ q. let least = ltb-false s (average s n * n) q in rw q (omega arith)))
 
 -- the rule for 365 days is no exception: there the product divides out
 pub annual-is : (s d : ℕ) → 0 < d → annual s d ≡ average (s * 365) d

@@ -1,5 +1,6 @@
-// The lower layer: number checks, calendar, averaging and ranges. It knows nothing of the store.
+// The lower layer: number checks, calendar, averaging, ranges and signed numbers. It knows nothing of the store.
 pub mod average;
 pub mod calendar;
 pub mod mpan;
 pub mod range;
+pub mod signed;

@@ -4,6 +4,7 @@ use metering::average;
 use metering::calendar;
 use metering::mpan;
 use metering::range;
+use metering::signed;
 
 fn text(bytes: &[u8]) {
     io::write_all(STDOUT_FILENO, bytes);
@@ -12,6 +13,14 @@ fn text(bytes: &[u8]) {
 fn number(n: u64) {
     text(b" ");
     io::print_decimal(STDOUT_FILENO, n);
+}
+
+fn signed_number(x: i64) {
+    text(b" ");
+    if x < 0 {
+        text(b"-");
+    }
+    io::print_decimal(STDOUT_FILENO, signed::magnitude(x));
 }
 
 fn flag(is_true: bool) {
@@ -33,7 +42,9 @@ fn average_case(sum: u64, count: u64) {
     number(sum);
     number(count);
     if 0 < count {
-        number(average::average_up(sum, count));
+        let average = average::average_up(sum, count);
+        number(average.value);
+        signed_number(average.remainder);
     } else {
         text(b" outside");
     }

@@ -1,7 +1,6 @@
 // The parts of a line, to standard output.
 use libc::STDOUT_FILENO;
-ghost use mathlib.Core.Path.{_≡_};
-ghost use lib.IntN.{natAbs};
+use metering::signed::magnitude;
 
 pub fn text(bytes: &[u8]) {
     io::write_all(STDOUT_FILENO, bytes);
@@ -12,22 +11,12 @@ fn number(n: u64) {
     io::print_decimal(STDOUT_FILENO, n);
 }
 
-// A number without its sign. For the least i64 no i64 holds it, so 1 is added once the sign is gone.
-fn size(x: i64) -> u64
-    ensures { λ r. ⌜ r ≡ natAbs x ⌝ }
-{
-    if x < 0 {
-        return (-1 - x) as u64 + 1;
-    }
-    x as u64
-}
-
 fn signed(x: i64) {
     text(b" ");
     if x < 0 {
         text(b"-");
     }
-    io::print_decimal(STDOUT_FILENO, size(x));
+    io::print_decimal(STDOUT_FILENO, magnitude(x));
 }
 
 pub fn question(date: u64, category: u64, all_groups: bool) {

@@ -12,7 +12,7 @@ use lib.Dec.{ltb, leb, eqb}
 use borrow.Table.Steps.{cases}
 use borrow.Author.Tests.{lt-ltb, le-ltb, ne-eqb, leb-true, leb-false}
 use Rattle.io.specs.Digits.{digits, Fewest}
-use Rattle.output.specs.Text.{Appended, decimalIn, decimalText, energyText, numberWord, readFrom, readBack}
+use Rattle.output.specs.Text.{Appended, decimalIn, decimalText, energyText, readFrom, readBack}
 
 -- ---- appending
 
@@ -79,9 +79,9 @@ digits-decimal (suc most) (suc (suc k)) n h f =
     let digit : n % 10 < 10 = omega arith in
     simp (digits-decimal most (suc k) (n / 10) (omega arith) (fewest-tenth n k f), le-ltb n 10 large, lt-ltb (n % 10) 10 digit)
 
-pub number-appended : {before after text : List ℕ} {at r : ℕ} (n k : ℕ) → n < 18446744073709551616 → Fewest 10 1 n k → text ≡ digits 10 k n → Appended before at after r (32 ∷ text) → Appended before at after r (numberWord n)
+pub decimal-appended : {before after text : List ℕ} {at r : ℕ} (n k : ℕ) → n < 18446744073709551616 → Fewest 10 1 n k → text ≡ digits 10 k n → Appended before at after r text → Appended before at after r (decimalText n)
 unfolding decimalText
-number-appended n k h f e a = rw (e, digits-decimal 20 k n (digits-bound n k h f) f) at a
+decimal-appended n k h f e a = rw (e, digits-decimal 20 k n (digits-bound n k h f) f) at a
 
 -- ---- reading back
 

@@ -5,7 +5,7 @@ use mathlib.Core.List.{List, [], _∷_, _++_}
 use lib.Dec.{eqb}
 use Rattle.ledger.specs.Method.{letterOf, Cell, Totals}
 use Rattle.ledger.specs.Ledger.{Answer, refused, accepted, moved, totalsAre, cellIs, netIs, bandIs, filledAre, coverageIs}
-use Rattle.output.specs.Text.{numberWord, energyWord}
+use Rattle.output.specs.Text.{numberWord, energyWord, signedWord}
 
 abbrev pub newline : List ℕ
 newline = 10 ∷ []
@@ -37,7 +37,8 @@ abbrev pub originWord : ℕ → List ℕ
 originWord origin = cond (eqb origin 65535) (32 ∷ 45 ∷ []) (numberWord origin)
 
 abbrev pub cellText : Cell → List ℕ
-cellText a = (32 ∷ letterOf (a .flag) ∷ []) ++ (energyWord (a .value) ++ (numberWord (a .count) ++ originWord (a .origin)))
+cellText a =
+    (32 ∷ letterOf (a .flag) ∷ []) ++ (energyWord (a .value) ++ (numberWord (a .count) ++ (originWord (a .origin) ++ signedWord (a .remainder))))
 
 -- the line for an answer to the command; none asks for a net, a band, a fill or a coverage
 unfoldable pub answerLine : ℕ → Answer → List ℕ

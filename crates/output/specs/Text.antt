@@ -3,6 +3,7 @@ use Prim.Native.Nat.{ℕ, zero, suc, _+_, _*_, _-_, _/_, _%_}
 use mathlib.Core.Path.{_≡_}
 use mathlib.Core.Bool.{cond}
 use mathlib.Core.List.{List, [], _∷_, _++_}
+use lib.IntN.{ℤ, pos, negsuc}
 use lib.ListN.{length, take}
 use lib.Dec.{ltb, eqb}
 
@@ -34,6 +35,11 @@ numberWord n = 32 ∷ decimalText n
 
 abbrev pub energyWord : ℕ → List ℕ
 energyWord n = 32 ∷ energyText n
+
+-- `-` stands before the digits of a number below 0
+abbrev pub signedWord : ℤ → List ℕ
+signedWord (pos n) = numberWord n
+signedWord (negsuc n) = 32 ∷ 45 ∷ decimalText (suc n)
 
 -- the digits read back as a number, a point passed over
 unfoldable pub readFrom : ℕ → List ℕ → ℕ

@@ -1,9 +1,10 @@
 // Putting text behind what a buffer already holds.
+use metering::signed::magnitude;
 ghost use mathlib.Core.Path.{_≡_};
 ghost use mathlib.Core.List.{[], _∷_};
 ghost use Prim.Native.Nat.{_+_, _≤_, _<_};
 ghost use lib.ListN.{length, take, drop};
-ghost use Rattle.output.specs.Text.{Appended, thousandths, numberWord, energyWord, readBack};
+ghost use Rattle.output.specs.Text.{Appended, decimalText, thousandths, numberWord, energyWord, signedWord, readBack};
 
 pub fn append(out: &mut [u8], at: usize, text: &[u8]) -> usize
     requires { ⌜ at + length (now text) ≤ length (now out) ⌝ }
@@ -20,16 +21,39 @@ pub fn append_byte(out: &mut [u8], at: usize, byte: u8) -> usize
     at + 1
 }
 
+// The number's digits.
+fn append_decimal(out: &mut [u8], at: usize, number: u64) -> usize
+    requires { ⌜ at + 20 ≤ length (now out) ⌝ }
+    ensures { λ r. ⌜ Appended (now (out .entry)) at (now (out .exit)) r (decimalText number) ⌝ }
+    ensures { λ r. ⌜ r ≤ at + 20 ⌝ }
+{
+    let mut digits = [0u8; 20];
+    let count = io::decimal(number, &mut digits);
+    append(out, at, &digits[..count])
+}
+
 // A blank and the number.
 pub fn append_number(out: &mut [u8], at: usize, number: u64) -> usize
     requires { ⌜ at + 21 ≤ length (now out) ⌝ }
     ensures { λ r. ⌜ Appended (now (out .entry)) at (now (out .exit)) r (numberWord number) ⌝ }
     ensures { λ r. ⌜ r ≤ at + 21 ⌝ }
 {
-    let mut digits = [0u8; 20];
-    let count = io::decimal(number, &mut digits);
     let next = append_byte(out, at, b' ');
-    append(out, next, &digits[..count])
+    append_decimal(out, next, number)
+}
+
+// A blank and the number with its sign.
+pub fn append_signed(out: &mut [u8], at: usize, number: i64) -> usize
+    requires { ⌜ at + 22 ≤ length (now out) ⌝ }
+    ensures { λ r. ⌜ Appended (now (out .entry)) at (now (out .exit)) r (signedWord number) ⌝ }
+    ensures { λ r. ⌜ r ≤ at + 22 ⌝ }
+{
+    let digits = magnitude(number);
+    if number < 0 {
+        let next = append(out, at, b" -");
+        return append_decimal(out, next, digits);
+    }
+    append_number(out, at, digits)
 }
 
 // The last three digits of the number.

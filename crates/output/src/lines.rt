@@ -3,6 +3,7 @@ use crate::append::append;
 use crate::append::append_byte;
 use crate::append::append_energy;
 use crate::append::append_number;
+use crate::append::append_signed;
 use entries::cell::Cell;
 use entries::cell::letter;
 use store::outcome::CellOutcome;
@@ -10,7 +11,6 @@ use store::outcome::Outcome;
 use store::outcome::RunOutcome;
 use store::outcome::Totals;
 use store::outcome::TotalsOutcome;
-ghost use mathlib.Core.Path.{_≡_};
 ghost use Prim.Native.Nat.{_+_, _≤_};
 ghost use lib.ListN.{length};
 ghost use Rattle.store.specs.Outcome.{answerOf, runAnswer, totalsMeant, totalsAnswer, cellAnswer};
@@ -128,15 +128,16 @@ fn append_origin(out: &mut [u8], at: usize, origin: u64) -> usize
 }
 
 fn append_fields(out: &mut [u8], at: usize, cell: Cell) -> usize
-    requires { ⌜ at + 69 ≤ length (now out) ⌝ }
+    requires { ⌜ at + 91 ≤ length (now out) ⌝ }
     ensures { λ r. ⌜ Appended (now (out .entry)) at (now (out .exit)) r (cellText (cellMeant cell)) ⌝ }
-    ensures { λ r. ⌜ r ≤ at + 69 ⌝ }
+    ensures { λ r. ⌜ r ≤ at + 91 ⌝ }
 {
     let flag = cell.flag;
     let mut next = append(out, at, &[b' ', letter(flag)]);
     next = append_energy(out, next, cell.value);
     next = append_number(out, next, cell.count);
-    append_origin(out, next, cell.origin)
+    next = append_origin(out, next, cell.origin);
+    append_signed(out, next, cell.remainder)
 }
 
 pub fn append_cell(out: &mut [u8], at: usize, outcome: CellOutcome) -> usize

@@ -4,6 +4,7 @@ use mathlib.Core.Path.{_≡_, refl, ap, ap₂, _∙_}
 use mathlib.Core.Bool.{Bool, true, false, _&&_, cond}
 use mathlib.Core.List.{List}
 use mathlib.Core.Option.{Option}
+use native.Mathlib.Nat.{le-trans}
 use native.Mathlib.Numerals.{add-one}
 use native.Mathlib.Omega.{arith}
 use lib.Dec.{leb}
@@ -22,17 +23,21 @@ use Rattle.ledger.proofs.Walks.{row-put, carryOn-same, settled-same}
 use Rattle.ledger.proofs.Lists.{length-tabulate, getD-tabulate, sumBelow-cong, sumBelow-times}
 use Rattle.entries.proofs.RowLaws.{filling-below, differing-le}
 use Rattle.run_date.specs.Sums.{tallyBelow, Tallied, Bounded, pooledBelow, entryFrom, rowFrom}
-use Rattle.run_date.proofs.Laws.{place-below, category-below, period-below, place-is, tally-most}
+use Rattle.run_date.proofs.Laws.{place-below, category-below, period-below, place-is, counts-together}
 
 -- ---- the new row, from sums and counts
 
 module _ (s m r : List ℕ) (date : ℕ) (known : Ready s) where
   -- place p of category c
+  tallied-below : (measure : Option ℕ → ℕ) (xs : List ℕ) → Tallied s m r date measure (metersOf s) xs → (c p : ℕ) → c < categoriesOf s → p < periodsOf s →
+      getD xs (c * periodsOf s + p) 0 ≡ tallyBelow s m r date measure (metersOf s) c (suc p)
+  tallied-below measure xs so c p in-range l =
+      so .at (c * periodsOf s + p) (place-below s c in-range p l) ∙ rw (digits-div c l, digits-mod c l)
+
   tallied-at : (measure : Option ℕ → ℕ) (xs : List ℕ) → Tallied s m r date measure (metersOf s) xs → (c p : ℕ) → c < categoriesOf s → p < periodsOf s →
       getD xs (c * periodsOf s + p) 0 ≡ tally s m r date measure c (suc p)
   unfolding tally tallyBelow
-  tallied-at measure xs so c p in-range l =
-      so .at (c * periodsOf s + p) (place-below s c in-range p l) ∙ rw (digits-div c l, digits-mod c l)
+  tallied-at measure xs so c p in-range l = tallied-below measure xs so c p in-range l
 
   pooled-is : (measure : Option ℕ → ℕ) (xs : List ℕ) → Tallied s m r date measure (metersOf s) xs → (c p : ℕ) → p < periodsOf s →
       pooledBelow s xs c (categoriesOf s) p ≡ familyTally s m r date measure c (suc p)
@@ -53,9 +58,9 @@ module _ (s m r : List ℕ) (date : ℕ) (known : Ready s) where
         record {
           sum = λ k l. rw (so-sums .at k l, so-counts .at k l) (times _ _);
           count =
-              λ k l.
-              rw (so-counts .at k l)
-              (omega (arith, tally-most s m r date present 1 (λ e. reading-bound e .1) (metersOf s) (k / periodsOf s) (suc (k % periodsOf s)), known .meters .1));
+              λ p l.
+              rw (sumBelow-cong (categoriesOf s) _ _ (λ c low. tallied-below present counts so-counts c p low l))
+              (le-trans (counts-together s m r date (suc p) (metersOf s)) (known .meters .1));
         }
 
     -- the row that is written is the definition's new row

@@ -13,7 +13,7 @@ shapeAt smart m date sums counts inherited at familySums familyCounts p =
     (freshOf smart m (getD sums (at + p) 0) (getD counts (at + p) 0) (getD familySums p 0) (getD familyCounts p 0))
     (getD inherited (at + p) 0)
 
--- a sum and count of readings, whose average has 32 bits
+-- a sum and count of readings, for whose average an entry has room
 pub record Averaged (s n : ℕ) : Type 0 where
   pub sum : s ≤ n * 4294967295
-  pub count : n ≤ 65536
+  pub count : n ≤ 1024

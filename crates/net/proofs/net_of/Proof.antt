@@ -2,7 +2,7 @@
 use native.Mathlib.Omega.{arith}
 use borrow.Author.Needs.{needs}
 use denote.Ref.{now}
-use Rattle.net.proofs.SignedLaws.{difference-back}
+use Rattle.metering.proofs.SignedLaws.{difference-back}
 use Rattle.net.proofs.NetLaws.{day-small, week-small, net-written}
 use Rattle.net.proofs.net_of.Statement.{statement}
 use Rattle.net.proofs.net_of.Tie as tie

@@ -6,15 +6,15 @@ use lib.ListN.{getD-replicate}
 use Rattle.ledger.specs.Ready.{ready, row-bounds}
 use native.Mathlib.Nat.{le-trans}
 use Rattle.ledger.specs.Method.{blank}
-use Rattle.ledger.specs.Store.{entryOf}
+use Rattle.ledger.specs.Store.{countAndOrigin, entryOf}
 use Rattle.run.proofs.run_accepted.Statement.{statement}
 use Rattle.run.proofs.run_accepted.Tie as tie
 
 abbrev start : tie.After-inherited → tie.Start
 start c = c .before .before .before .before .before .before .before .before .before .before
 
-blank-is : _≡_ {A = ℕ} 4294901764 (entryOf blank)
-unfolding entryOf blank
+blank-is : _≡_ {A = ℕ} 2147483648 (entryOf blank)
+unfolding entryOf countAndOrigin blank
 blank-is = refl
 
 slice-aggregate-run-with : tie.Need-slice-aggregate-run-with
@@ -34,7 +34,7 @@ run-with-requires c κs =
       s .pre,
       (
         (small, small, small),
-        λ k l. (getD-replicate 6144 k 0 0 (le-trans l small), getD-replicate 6144 k 0 0 (le-trans l small), getD-replicate 6144 k 4294901764 0 (le-trans l small) ∙ blank-is),
+        λ k l. (getD-replicate 6144 k 0 0 (le-trans l small), getD-replicate 6144 k 0 0 (le-trans l small), getD-replicate 6144 k 2147483648 0 (le-trans l small) ∙ blank-is),
       ),
     )
 

@@ -16,7 +16,7 @@ returns-2 c = (rw (c .if2 .taken), omega arith)
 
 returns-3 : tie.Need-returns-3
 unfolding cellOfEntry flagNumberOf
-returns-3 c = (not-fresh (c .before .before .args .half % 8) (c .before .if1 .left) (c .if2 .left), omega arith)
+returns-3 c = (not-fresh (c .before .before .args .half % 4) (c .before .if1 .left) (c .if2 .left), omega arith)
 
 pub fresh-in-spec : {M : Type 1} → statement M
 fresh-in-spec = tie.close (tie.spec returns returns-2 returns-3)

@@ -2,7 +2,7 @@
 use mathlib.Core.Path.{sym, _∙_}
 use Rattle.ledger.specs.Store.{cellOfEntry}
 use borrow.Author.Needs.{needs}
-use Rattle.entries.proofs.DayLaws.{no-origin, an-origin, origin-of-half}
+use Rattle.entries.proofs.DayLaws.{no-origin, shape-origin}
 use Rattle.entries.proofs.day.origin_in.Statement.{statement}
 use Rattle.entries.proofs.day.origin_in.Tie as tie
 
@@ -15,8 +15,7 @@ returns c = no-origin (cellOfEntry (c .before .before .args .half)) (sym (c .bef
 returns-2 : tie.Need-returns-2
 returns-2 c =
     let s = c .before .before in
-    origin-of-half (s .args .half) (s .fits .half .fits)
-    ∙ an-origin (cellOfEntry (s .args .half)) (λ e. c .if1 .left (c .before .blank-in .ensures .0 ∙ e))
+    shape-origin (s .args .half) (λ e. c .if1 .left (c .before .blank-in .ensures .0 ∙ e))
 
 pub origin-in-spec : {M : Type 1} → statement M
 origin-in-spec = tie.close (tie.spec blank-in-requires returns returns-2)

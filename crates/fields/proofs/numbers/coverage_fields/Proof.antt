@@ -1,7 +1,7 @@
 -- `coverage_fields` meets its contract: five numbers, each below 2 ^ 63.
 use mathlib.Core.Path.{refl}
 use native.Mathlib.Omega.{arith}
-use Rattle.net.proofs.SignedLaws.{toZ-pos}
+use Rattle.metering.proofs.SignedLaws.{toZ-pos}
 use borrow.Author.Needs.{needs}
 use Rattle.fields.proofs.numbers.coverage_fields.Statement.{statement}
 use Rattle.fields.proofs.numbers.coverage_fields.Tie as tie

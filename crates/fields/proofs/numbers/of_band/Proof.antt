@@ -3,7 +3,7 @@ use mathlib.Core.Path.{refl}
 use mathlib.Core.List.{[]}
 use native.Mathlib.Omega.{arith}
 use borrow.Author.Needs.{needs, sfits-of}
-use Rattle.net.proofs.SignedLaws.{toZ-pos}
+use Rattle.metering.proofs.SignedLaws.{toZ-pos}
 use Rattle.fields.proofs.numbers.of_band.Statement.{statement}
 use Rattle.fields.proofs.numbers.of_band.Tie as tie
 

@@ -2,7 +2,7 @@
 use mathlib.Core.Path.{refl}
 use native.Mathlib.Omega.{arith}
 use borrow.Author.Needs.{needs, sfits-of}
-use Rattle.net.proofs.SignedLaws.{toZ-pos}
+use Rattle.metering.proofs.SignedLaws.{toZ-pos}
 use Rattle.fields.proofs.numbers.of_run.Statement.{statement}
 use Rattle.fields.proofs.numbers.of_run.Tie as tie
 

@@ -18,7 +18,7 @@ average-up-requires c κs = search needs
 
 returns-2 : tie.Need-returns-2
 unfolding annual
-returns-2 c = rw (ne-eqb (c .before .before .args .days) 365 (omega arith)) (c .average-up .ensures)
+returns-2 c = rw (ne-eqb (c .before .before .args .days) 365 (omega arith)) (c .average-up .ensures .0)
 
 pub annual-figure-spec : {M : Type 1} → statement M
 annual-figure-spec = tie.close (tie.spec returns mul-average-up average-up-requires returns-2)

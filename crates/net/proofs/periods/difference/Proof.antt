@@ -1,7 +1,7 @@
 -- `net::periods::difference` meets its contract: two numbers below 2 ^ 63 have a difference of 64 bits.
 use borrow.Author.Needs.{needs}
 use mir.Facts.{toZ-ofZ}
-use Rattle.net.proofs.SignedLaws.{toZ-pos, minus-fits}
+use Rattle.metering.proofs.SignedLaws.{toZ-pos, minus-fits}
 use Rattle.net.proofs.periods.difference.Statement.{statement}
 use Rattle.net.proofs.periods.difference.Tie as tie
 

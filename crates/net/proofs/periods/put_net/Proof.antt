@@ -1,7 +1,7 @@
 -- `net::periods::put_net` meets its contract.
 use mathlib.Core.Path.{ap}
 use lib.ListN.{set}
-use Rattle.net.proofs.SignedLaws.{difference-back}
+use Rattle.metering.proofs.SignedLaws.{difference-back}
 use borrow.Author.Needs.{needs}
 use Rattle.net.proofs.periods.put_net.Statement.{statement}
 use Rattle.net.proofs.periods.put_net.Tie as tie

@@ -6,7 +6,7 @@ use mathlib.Core.Path.{_≡_, sym, ap, _∙_}
 use native.Mathlib.Omega.{arith}
 use Rattle.ledger.specs.Ready.{ready}
 use Rattle.ledger.specs.Store.{periodsOf}
-use Rattle.run_date.proofs.Laws.{start-asks, sums-small, member-asks, pooled-skip, pooled-add}
+use Rattle.run_date.proofs.Laws.{start-asks, counts-small, sums-small, member-asks, pooled-skip, pooled-add}
 use Rattle.run_date.proofs.write.add_member.Statement.{statement}
 use Rattle.run_date.proofs.write.add_member.Tie as tie
 
@@ -51,7 +51,7 @@ add-row-requires c κs =
     let s = start (tested k) in
     let a = s .args in
     let S = a .settings .now in
-    member-asks S (a .sums .now) (a .category) 4398046510080 (omega arith) (sums-small S (a .sums .now) (a .counts .now) (s .pre .1 .0))
+    member-asks S (a .sums .now) (a .category) 4398046510080 (omega arith) (sums-small S (a .sums .now) (a .counts .now) (ready S (s .pre .0 .0)) (s .pre .1 .0))
     (a .b) _ _ (at-is k) (periods-are k) (a .family-sums .now)
     (ready S (s .pre .0 .0)) (s .pre .1 .1 .1 .0 .1) (s .pre .0 .1) (s .pre .1 .1 .0 .0) (s .pre .1 .1 .1 .1 .0)
 
@@ -61,7 +61,7 @@ add-row-requires-2 c κs =
     let s = start (tested k) in
     let a = s .args in
     let S = a .settings .now in
-    member-asks S (a .counts .now) (a .category) 1024 (omega arith) (s .pre .1 .0 .count) (a .b) _ _ (at-is k) (periods-are k) (a .family-counts .now)
+    member-asks S (a .counts .now) (a .category) 1024 (omega arith) (counts-small S (a .sums .now) (a .counts .now) (ready S (s .pre .0 .0)) (s .pre .1 .0)) (a .b) _ _ (at-is k) (periods-are k) (a .family-counts .now)
     (ready S (s .pre .0 .0)) (s .pre .1 .1 .1 .0 .1) (s .pre .0 .2) (s .pre .1 .1 .0 .1) (s .pre .1 .1 .1 .1 .1)
 
 same-length : tie.Need-same-length

@@ -1,13 +1,15 @@
 -- `run_rows::shape_entry` meets its contract, in each case of the method: an average of readings has room in an entry.
 use borrow.Author.Needs.{needs}
-use Prim.Native.Nat.{ℕ, _<_}
+use Prim.Native.Nat.{ℕ, _≤_, _<_}
 use mathlib.Core.Path.{_≡_, sym, ap, _∙_}
 use mathlib.Core.Bool.{true, false}
-use Rattle.metering.specs.Average.{average}
-use Rattle.ledger.specs.Method.{isEnough, freshOf, ownCell, pooledCell}
-use Rattle.ledger.specs.Store.{entryOf}
-use Rattle.ledger.proofs.Entries.{shape-bound}
-use Rattle.ledger.proofs.Tallies.{enough-some, average-small}
+use native.Mathlib.Omega.{arith}
+use lib.IntN.{ℤ}
+use Rattle.metering.specs.Average.{average, remainder}
+use Rattle.ledger.specs.Method.{isEnough, freshOf, Flag, A, D, flagNumber}
+use Rattle.ledger.specs.Store.{entryOf, FitsEntry}
+use Rattle.ledger.proofs.Entries.{shape-fits}
+use Rattle.ledger.proofs.Tallies.{enough-some, average-fits}
 use Rattle.run_rows.specs.Shape.{Averaged}
 use Rattle.run_rows.proofs.shape.shape_entry.Statement.{statement}
 use Rattle.run_rows.proofs.shape.shape_entry.Tie as tie
@@ -38,8 +40,11 @@ family-few : (c : tie.Else3) → isEnough (start-family (c .before) .args .famil
 family-few c = sym (c .before .enough2 .ensures) ∙ c .if3 .left
 
 -- an average as the code has it
-small : (s n m v : ℕ) → isEnough n m ≡ true → Averaged s n → v ≡ average s n → v < 4294967296
-small s n m v enough bounds is = rw is (average-small s n (enough-some n m enough) (bounds .sum))
+fits : (f : Flag) (d s n m v : ℕ) (r : ℤ) → 1 ≤ flagNumber f → d < 1024 → isEnough n m ≡ true → Averaged s n → (v ≡ average s n) × (r ≡ remainder s n) →
+    FitsEntry (record { flag = f; value = v; count = n; origin = d; remainder = r })
+fits f d s n m v r some date enough bounds is =
+    let a = average-fits s n m enough (bounds .sum) (bounds .count) in
+    rw (is .0, is .1) (shape-fits f (average s n) n d (remainder s n) some (a .0) (a .1, a .2, date, a .3))
 
 enough-requires : tie.Need-enough-requires
 enough-requires c κs = search needs
@@ -54,9 +59,7 @@ entry-of-requires : tie.Need-entry-of-requires
 entry-of-requires c κs =
     let s = start (after-enough c) in
     rw (c .own .ensures)
-    (shape-bound (ownCell (s .args .date) (c .before .average-up .result) (s .args .count))
-    (small (s .args .sum) (s .args .count) _ _ (own-enough (c .before .before)) (s .pre .1 .0) (c .before .average-up .ensures))
-    (s .pre .1 .0 .count) (s .pre .0))
+    (fits A (s .args .date) (s .args .sum) (s .args .count) _ _ _ (omega arith) (s .pre .0) (own-enough (c .before .before)) (s .pre .1 .0) (c .before .average-up .ensures))
 
 returns : tie.Need-returns
 unfolding freshOf
@@ -64,7 +67,7 @@ returns c =
     let s = start (after-enough (c .before)) in
     rw (own-enough (c .before .before .before))
     (c .entry-of .ensures
-    ∙ ap entryOf (c .before .own .ensures ∙ ap (λ (v : ℕ). ownCell (s .args .date) v (s .args .count)) (c .before .before .average-up .ensures)))
+    ∙ ap entryOf (c .before .own .ensures ∙ rw (c .before .before .average-up .ensures .0, c .before .before .average-up .ensures .1)))
 
 enough-requires-2 : tie.Need-enough-requires-2
 enough-requires-2 c κs = search needs
@@ -79,9 +82,7 @@ entry-of-requires-2 : tie.Need-entry-of-requires-2
 entry-of-requires-2 c κs =
     let s = start-family (after-enough2 c) in
     rw (c .pooled .ensures)
-    (shape-bound (pooledCell (s .args .date) (c .before .average-up2 .result) (s .args .family-count))
-    (small (s .args .family-sum) (s .args .family-count) _ _ (family-enough (c .before .before)) (s .pre .1 .1) (c .before .average-up2 .ensures))
-    (s .pre .1 .1 .count) (s .pre .0))
+    (fits D (s .args .date) (s .args .family-sum) (s .args .family-count) _ _ _ (omega arith) (s .pre .0) (family-enough (c .before .before)) (s .pre .1 .1) (c .before .average-up2 .ensures))
 
 returns-2 : tie.Need-returns-2
 unfolding freshOf
@@ -90,7 +91,7 @@ returns-2 c =
     let s = start-family (after-enough2 (c .before)) in
     rw (own-few (smart .before), smart .if2 .taken, family-enough (c .before .before .before))
     (c .entry-of2 .ensures
-    ∙ ap entryOf (c .before .pooled .ensures ∙ ap (λ (v : ℕ). pooledCell (s .args .date) v (s .args .family-count)) (c .before .before .average-up2 .ensures)))
+    ∙ ap entryOf (c .before .pooled .ensures ∙ rw (c .before .before .average-up2 .ensures .0, c .before .before .average-up2 .ensures .1)))
 
 returns-3 : tie.Need-returns-3
 unfolding freshOf

@@ -10,12 +10,9 @@ mul-entry-at c = search needs
 entry-at-requires : tie.Need-entry-at-requires
 entry-at-requires c κs = search needs
 
-flag-number-requires : tie.Need-flag-number-requires
-flag-number-requires c κs = search needs
-
 returns : tie.Need-returns
 unfolding isRunAt
-returns c = rw (c .flag-number .ensures, c .before .entry-at .ensures)
+returns c = rw (c .entry-at .ensures)
 
 pub is-run-spec : {M : Type 1} → statement M
-is-run-spec = tie.close (tie.spec mul-entry-at entry-at-requires flag-number-requires returns)
+is-run-spec = tie.close (tie.spec mul-entry-at entry-at-requires returns)

@@ -1,0 +1,2 @@
+-- Laws of signed numbers that several crates cite.
+pub mod SignedLaws
