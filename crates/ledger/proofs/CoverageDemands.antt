@@ -10,7 +10,7 @@ use Rattle.ledger.specs.Method.{absent, own, pooled, Flag, A, D, E, N, C
 use Rattle.ledger.specs.Ledger.{dates, periods, category, Ledger, readCoverage, coverageIs, Lengths, dayOf, cellBy, cellAt, totalsAt, ledgerCoverageCheck, coverageAt, ledgerAnswer, ledgerAfter}
 use Rattle.ledger.specs.Engine.{leaves}
 use Rattle.ledger.specs.Demands.{Shaped, Covered, CoverageCounts, CoverageLeavesAll}
-use Rattle.ledger.proofs.Verdicts.{answer-none, answer-some}
+use Rattle.ledger.proofs.FirstFailed.{answered}
 use Rattle.ledger.proofs.Entries.{origin-shaped, origin-blank}
 use Rattle.ledger.proofs.Demands.{copies-have-origins}
 use Rattle.ledger.proofs.CallDemands.{coverage-exact}
@@ -111,24 +111,18 @@ coverage-counts l d c h =
 -- ---- what a call answers
 
 -- the coverage, where 9 does not refuse
-answered : (l : Ledger) (n : Lengths) (d c : ℕ) (given : Coverage) → ledgerAnswer l n (readCoverage d c) ≡ coverageIs given →
+coverage-given : (l : Ledger) (n : Lengths) (d c : ℕ) (given : Coverage) → ledgerAnswer l n (readCoverage d c) ≡ coverageIs given →
     (d < dates (l .opening)) × (given ≡ coverageAt l d c)
 unfolding ledgerAnswer
-answered l n d c given is =
-    cases (eqb (ledgerCoverageCheck l n d c .number) 0)
-    (λ q.
-    let heard = answer-none (ledgerCoverageCheck l n d c) (coverageIs (coverageAt l d c)) (eqb-true _ 0 q) in
-    let both : coverageIs given ≡ coverageIs (coverageAt l d c) = sym is ∙ heard in
-    (coverage-exact l n d c .0 .0 heard .1 .0, cc))
-    (λ q.
-    let heard = answer-some (ledgerCoverageCheck l n d c) (coverageIs (coverageAt l d c)) (eqb-false _ 0 q) in
-    absurd (let z : _≡_ {A = ℕ} 0 1 = cc in omega arith))
+coverage-given l n d c given is =
+    let same : coverageIs (coverageAt l d c) ≡ coverageIs given = answered (ledgerCoverageCheck l n d c) _ (coverageIs given) refl is .1 in
+    (coverage-exact l n d c .0 .0 (is ∙ sym same) .1 .0, cc)
 
 -- dates that are few enough make d < 65535
 pub coverage-covers : (l : Ledger) (n : Lengths) (d c : ℕ) (given : Coverage) → dates (l .opening) ≤ 65535 →
     ledgerAnswer l n (readCoverage d c) ≡ coverageIs given → Covered l d c given
 coverage-covers l n d c given few is =
-    let facts = answered l n d c given is in
+    let facts = coverage-given l n d c given is in
     let date = facts .0 in
     rw (facts .1) (coverage-counts l d c (omega arith))
 

@@ -1,5 +1,5 @@
 -- Demand 2 and the consequences of agreement.
-use Prim.Native.Nat.{ℕ, zero, suc, _<_}
+use Prim.Native.Nat.{ℕ, zero, suc, _≤_, _<_}
 use mathlib.Core.Path.{_≡_, refl, sym, ap, subst, fun-ext, _∙_}
 use mathlib.Core.Logic.{_≢_, _⊎_, inl, inr, ⊎-elim}
 use mathlib.Core.Bool.{Bool, true, false, not, _&&_, cond, and-eq-true-iff, true≢false}
@@ -11,14 +11,15 @@ use borrow.Table.Steps.{cases}
 use borrow.Author.Tests.{eqb-true, eq-eqb, ne-eqb, lt-leb}
 use Rattle.metering.specs.Average.{Rounded}
 use Rattle.metering.specs.Laws.{rounded-is}
-use Rattle.ledger.specs.Method.{Category, Picture, wattHours, present, total, isEnough, freshOf, freshIn, Fresh, absent, own, pooled, Cell, Flag, A, D, E, N, blank, ownCell, pooledCell, isOwnCell, carried, cellFrom, Day, notRun, ran, afterDate, latest, cellOf, cellOn}
+use Rattle.ledger.specs.Method.{Category, Picture, wattHours, present, total, isEnough, freshOf, freshIn, Fresh, absent, own, pooled, Cell, Flag, A, D, E, N, blank, ownCell, pooledCell, isOwnCell, carried, cellFrom, Day, notRun, ran, afterDate, latest, cellOf, cellOn, sameCell, movedCell}
 use Rattle.ledger.specs.Checks.{verdict, runCheck, readCheck, totalsInRange, cellInRange}
-use Rattle.ledger.specs.Ledger.{categories, dates, periods, category, dayType, Ledger, Answer, refused, moved, totalsAre, coverageIs, cellIs, answer, Lengths, cellsShort, daysShort, anyShort, at, cellBy, cellAt, dayOf, isPicture, isRun, ledgerRunCheck, ledgerTotalsCheck, ledgerCoverageCheck, coverageAt, ledgerCellCheck, pictureOf, afterRun, movedBetween, totalsAt, ledgerAnswer}
-use Rattle.ledger.specs.Demands.{RunIsMethod, NeverNotRun, SecondRunMovesNothing, SamePicturesSameCells, CopiesHaveOrigins, Averages, familyOf, SumsShown}
+use Rattle.ledger.specs.Ledger.{categories, dates, periods, category, dayType, Ledger, readCell, Answer, refused, moved, totalsAre, coverageIs, cellIs, answer, Lengths, cellsShort, daysShort, anyShort, at, cellBy, cellAt, dayOf, isPicture, isRun, ledgerRunCheck, ledgerTotalsCheck, ledgerCoverageCheck, coverageAt, ledgerCellCheck, pictureOf, afterRun, movedBetween, totalsAt, ledgerAnswer}
+use Rattle.ledger.specs.Demands.{RunIsMethod, NeverNotRun, SecondRunMovesNothing, SamePicturesSameCells, CopiesHaveOrigins, Averages, familyOf, ShowsSum, SumsShown, MovedExact}
 use Rattle.ledger.proofs.Lists.{sumBelow-none}
-use Rattle.ledger.proofs.Entries.{moved-same, carried-not-own}
+use Rattle.ledger.proofs.Entries.{moved-same, unmoved, carried-not-own}
 use Rattle.ledger.proofs.Columns.{latest-other-type}
 use Rattle.ledger.proofs.Tallies.{enough-some}
+use Rattle.ledger.proofs.FirstFailed.{answered}
 
 -- ---- runs and reads
 
@@ -245,6 +246,12 @@ own-flagged d (ran absent) before = let n = not-own (carried before) (carried-no
 own-flagged d (ran (own v n r)) before = (λ e. refl, λ e. absurd (let z : _≡_ {A = ℕ} 0 1 = cc in omega arith))
 own-flagged d (ran (pooled v n r)) before = (λ e. absurd (let z : _≡_ {A = ℕ} 0 1 = cc in omega arith), λ e. refl)
 
+-- the cell that a read is answered with
+cell-given : (l : Ledger) (n : Lengths) (d c j : ℕ) (given : Cell) → ledgerAnswer l n (readCell d c j) ≡ cellIs given → given ≡ cellAt l d c j
+unfolding ledgerAnswer
+cell-given l n d c j given is =
+    let same : cellIs (cellAt l d c j) ≡ cellIs given = answered (ledgerCellCheck l n d c j) _ (cellIs given) refl is .1 in cc
+
 pub sums-shown : SumsShown
 unfolding cellAt cellBy
 sums-shown l d c j = (
@@ -268,3 +275,24 @@ sums-shown l d c j = (
 
     here : (a .flag ≡ A → day d ≡ ran (own (a .value) (a .count) (a .remainder))) × (a .flag ≡ D → day d ≡ ran (pooled (a .value) (a .count) (a .remainder)))
     here = unfold cellOn in own-flagged d (day d) _
+
+pub read-shows : (l : Ledger) (n : Lengths) (d c j : ℕ) (given : Cell) → ledgerAnswer l n (readCell d c j) ≡ cellIs given → ShowsSum l d c j given
+read-shows l n d c j given is = rw (cell-given l n d c j given is) (sums-shown l d c j)
+
+-- ---- moved cells
+
+moved-le : (a b : Cell) → movedCell a b ≤ 1
+unfolding movedCell
+moved-le a b = cases (sameCell a b) (λ q. rw q (omega arith)) (λ q. rw q (omega arith))
+
+pub moved-exact : MovedExact
+moved-exact a b = (
+  (
+    λ e. let same = unmoved a b e in rw same (refl, refl, refl, refl, refl),
+    λ h.
+        let same : a ≡ b =
+        λ i. record { flag = h .0 i; value = h .1 i; count = h .2 i; origin = h .3 i; remainder = h .4 i } in
+        rw same (moved-same b),
+  ),
+  moved-le a b,
+)

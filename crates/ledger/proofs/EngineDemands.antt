@@ -9,7 +9,7 @@ use native.Mathlib.Omega.{arith}
 use native.Mathlib.Nat.{le-refl, min-eq-left}
 use lib.Dec.{eqb, leb}
 use borrow.Table.Steps.{cases}
-use borrow.Author.Tests.{eqb-true, leb-false, lt-leb, lt-ltb, le-ltb}
+use borrow.Author.Tests.{leb-false, lt-leb, lt-ltb, le-ltb}
 use Rattle.metering.specs.Calendar.{durationKnown}
 use Rattle.metering.specs.Laws.{between-true}
 use Rattle.metering.specs.Range.{between, metersInRange, categoriesInRange, datesInRange, dayTypeValid, smartValid, advancedValid, categoryValid}
@@ -17,18 +17,19 @@ use Rattle.ledger.specs.Method.{freshIn, cellFrom, latest, cellOf, cellO
 use Rattle.ledger.specs.Fill.{FillCall}
 use Rattle.ledger.specs.Checks.{Verdict, firstFailed, anyBelow, orElse, recordAt, sameKey, categoryNumber, dayTypeNumber, sizesValid, openingCheck, runCheck, readCheck, cellInRange}
 use Rattle.ledger.specs.Sizes.{settingsLength, metersLength, readingsLength, cellsLength, daysLength}
-use Rattle.ledger.specs.Ledger.{Opening, categories, dates, periods, category, dayType, Ledger, start, Call, register, receive, run, readTotals, readCell, readNet, searchBand, fillHole, readCoverage, Answer, refused, moved, cellIs, answer, left, Lengths, leastLengths, settingsShort, metersShort, cellsShort, anyShort, afterRegistration, afterReception, pictureOf, afterRun, movedBetween, cellBy, cellAt, dayOf, isPicture, isRun, ledgerRegistrationCheck, ledgerReceptionCheck, ledgerRunCheck, ledgerCellCheck, ledgerAnswer, ledgerAfter}
+use Rattle.ledger.specs.Ledger.{Opening, categories, dates, periods, category, dayType, Ledger, start, Call, register, receive, run, readTotals, readCell, readNet, searchBand, fillHole, readCoverage, Answer, moved, cellIs, answer, left, Lengths, leastLengths, settingsShort, metersShort, cellsShort, anyShort, afterRegistration, afterReception, pictureOf, afterRun, movedBetween, cellBy, cellAt, dayOf, isPicture, isRun, ledgerRegistrationCheck, ledgerReceptionCheck, ledgerRunCheck, ledgerCellCheck, ledgerAnswer, ledgerAfter}
 use Rattle.ledger.specs.Calls.{openingVerdict}
 use Rattle.ledger.specs.Engine.{Parts, openedParts, Item, answersFrom, storeAnswers, cutLengths, ledgerAnswers, lengthsOf, BodyOfBytes, BodiesOfBytes, Every}
-use Rattle.ledger.specs.Demands.{ledgerAfterItems, ledgerBeside, LastAnswer, Accepts, EngineReceivesExactly, EngineRuns, Spares, EngineReadsMethod, shapeValue, Shared, Fills, EngineFills, EngineCovers}
+use Rattle.ledger.specs.Demands.{ledgerAfterItems, ledgerBeside, LastAnswer, Accepts, EngineReceivesExactly, EngineRuns, Spares, EngineReadsMethod, shapeValue, Shared, Fills, EngineFills, EngineCovers, EngineShowsSums}
 use Rattle.ledger.specs.Marked.{exampleOpening, exampleCalls, exampleAnswers, netOpening, netCalls, netAnswers, bandOpening, bandCalls, bandAnswers, fillOpening, fillCalls, fillAnswers, coverageOpening, coverageCalls, coverageAnswers, senderOpening, senderCalls, senderAnswers, remainderOpening, remainderCalls, remainderAnswers, ledgerRun, worked-examples, lentLeast, EngineAnswers, WorkedOnEngine}
 use Rattle.ledger.proofs.Choices.{check-passed}
+use Rattle.ledger.proofs.FirstFailed.{answered}
 use Rattle.ledger.proofs.Verdicts.{left-none, left-of}
 use Rattle.ledger.proofs.Chosen.{every-append}
 use Rattle.ledger.proofs.Open.{opening-accepted}
 use Rattle.ledger.proofs.Bytes.{allBytes, are-bytes}
 use Rattle.ledger.proofs.Agreement.{agreement}
-use Rattle.ledger.proofs.Demands.{at-same, at-other, latest-alike, run-is-method}
+use Rattle.ledger.proofs.Demands.{at-same, at-other, latest-alike, run-is-method, read-shows}
 use Rattle.ledger.proofs.CallDemands.{reception-exact}
 use Rattle.ledger.proofs.FillDemands.{fill-shares}
 use Rattle.ledger.proofs.CoverageDemands.{coverage-covers}
@@ -150,18 +151,11 @@ engine-runs p a items n d e b long h =
     store-answers p a e items b (record { lent = n; call = run d }) _ tt
     (run-answers l (cutLengths n (lengthsOf p)) d (rw o long) (rw o h) ∙ ap (λ x. moved (movedBetween x (cellAt l) (cellAt (afterRun l d)))) o)
 
-moved-none : (v : Verdict) (k m : ℕ) → answer v (moved k) ≡ moved m → v .number ≡ 0
-unfolding answer
-moved-none v k m e =
-    cases (eqb (v .number) 0)
-    (λ t. eqb-true _ _ t)
-    (λ t. absurd (let w : refused (v .number) (v .place) ≡ moved m = rw t at e in let z : _≡_ {A = ℕ} 0 1 = cc in omega arith))
-
 -- an accepted run names a date, and is taken
 run-taken : (l : Ledger) (n : Lengths) (d moves : ℕ) → ledgerAnswer l n (run d) ≡ moved moves → (d < dates (l .opening)) × (ledgerAfter l n (run d) ≡ afterRun l d)
 unfolding ledgerAnswer ledgerAfter ledgerRunCheck runCheck
 run-taken l n d moves e =
-    let passed = moved-none _ _ moves e in
+    let passed = answered (ledgerRunCheck l n d) _ (moved moves) refl e .0 in
     let p9 = check-passed (leb (dates (l .opening)) d) 8 0 (check-passed (anyShort (l .opening) n) 0 _ passed .1) in
     (leb-false (dates (l .opening)) d (p9 .0), left-none _ l (afterRun l d) passed)
 
@@ -226,6 +220,13 @@ pub engine-covers : EngineCovers
 engine-covers p a items n d c given e b heard =
     coverage-covers (ledgerBeside p a items) (cutLengths n (lengthsOf p)) d c given (rw (opening-beside p a items) (few-dates p a e))
     (store-answered p a e items b (record { lent = n; call = readCoverage d c }) _ tt heard)
+
+-- ---- what rounding dropped
+
+pub engine-shows-sums : EngineShowsSums
+engine-shows-sums p a items n d c j given e b heard =
+    read-shows (ledgerBeside p a items) (cutLengths n (lengthsOf p)) d c j given
+    (store-answered p a e items b (record { lent = n; call = readCell d c j }) _ tt heard)
 
 -- ---- the worked examples
 

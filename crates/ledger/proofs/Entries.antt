@@ -58,7 +58,7 @@ shape-or-none a shape none =
     (λ e. shape (number-some (a .flag) (eqb-false (flagNumber (a .flag)) 0 e)))
 
 -- the entry of a shape with flag number k
-abbrev pub shapeEntry : ℕ → Cell → ℕ
+abbrev shapeEntry : ℕ → Cell → ℕ
 shapeEntry k a = k + (4 * (a .count - 1) + 4096 * a .origin) + 4194304 * remainderBits (a .remainder) + 4294967296 * a .value
 
 pub with-shape : (a : Cell) → a .flag ≢ N → (1 ≤ flagNumber (a .flag)) × (flagNumber (a .flag) ≤ 3) × (entryOf a ≡ shapeEntry (flagNumber (a .flag)) a)
@@ -132,6 +132,10 @@ cell-entry a fit = shape-or-none a shape none
         let value : entryOf a / 4294967296 ≡ a .value = omega arith in
         rw number
         (λ i. record { flag = sym is i; value = value i; count = sym (n .0) i; origin = sym (n .1) i; remainder = sym (n .2) i })
+
+-- put what was read, of an entry that a put gave
+pub entry-cell : (a : Cell) → FitsEntry a → entryOf (cellOfEntry (entryOf a)) ≡ entryOf a
+entry-cell a fit = ap entryOf (cell-entry a fit)
 
 pub remainder-fits : (a : Cell) → FitsEntry a → mag (a .remainder) < 512
 remainder-fits a fit = shape-or-none a (λ some. fit .shape some .3) (λ none. rw (fit .no-shape none .2) (omega arith))

@@ -22,12 +22,11 @@ use Rattle.ledger.specs.Checks.{openingCheck, totalsInRange, fillCheck}
 use Rattle.ledger.specs.Ledger.{Opening, categories, dates, periods, category, Ledger, filledAre, Lengths, shapeAt, weightAt, ledgerFillCheck, fillAt, ledgerAnswer, ledgerAfter}
 use Rattle.ledger.specs.Engine.{leaves}
 use Rattle.ledger.specs.Demands.{SameKey, OptedOutShape, HasShape, ShapeExact, IsMissing, missingSum, shapeValue, FillExact, Shared, FillUnique, Fills, FillShares, FillNear, FillAlone, LeftOverFew, FillLeavesAll}
-use Rattle.ledger.proofs.Verdicts.{answer-none, answer-some}
 use Rattle.ledger.proofs.Lists.{length-tabulate, getD-tabulate, sumBelow-cong, sumBelow-one, terms-lt}
 use Rattle.ledger.proofs.Chosen.{first-passes, first-low}
 use Rattle.ledger.proofs.Nets.{sumOver-tabulate}
 use Rattle.ledger.proofs.Fills.{gets-before, left-over-few, filled-sum, filled-near, filled-zero}
-use Rattle.ledger.proofs.FirstFailed.{finds-none, finds-row, goes-by}
+use Rattle.ledger.proofs.FirstFailed.{answered, finds-none, finds-row, goes-by}
 use Rattle.ledger.proofs.CallDemands.{not-iff, date-iff, lists-iff, ran-iff, keys-differ}
 use Rattle.ledger.proofs.NetDemands.{sum-chosen}
 use Rattle.ledger.proofs.FigureDemands.{chosen-count}
@@ -319,23 +318,17 @@ fill-unique P marks value advance some given =
 -- ---- what a call answers
 
 -- the filled values, where 17 does not refuse
-answered : (l : Ledger) (n : Lengths) (a : FillCall) (given : List ℕ) → Fills l n a given →
+fill-given : (l : Ledger) (n : Lengths) (a : FillCall) (given : List ℕ) → Fills l n a given →
     (missingSum (periods (l .opening)) (a .marks) (shapeValue l a) ≢ 0) × (given ≡ fillAt l a)
 unfolding ledgerAnswer
-answered l n a given is =
-    cases (eqb (ledgerFillCheck l n a .number) 0)
-    (λ q.
-    let heard = answer-none (ledgerFillCheck l n a) (filledAre (fillAt l a)) (eqb-true _ 0 q) in
-    let both : filledAre given ≡ filledAre (fillAt l a) = sym is ∙ heard in
-    (fill-exact l n a .0 .0 heard .1 .1 .1 .1 .0 .1, cc))
-    (λ q.
-    let heard = answer-some (ledgerFillCheck l n a) (filledAre (fillAt l a)) (eqb-false _ 0 q) in
-    absurd (let z : _≡_ {A = ℕ} 0 1 = cc in omega arith))
+fill-given l n a given is =
+    let same : filledAre (fillAt l a) ≡ filledAre given = answered (ledgerFillCheck l n a) _ (filledAre given) refl is .1 in
+    (fill-exact l n a .0 .0 (is ∙ sym same) .1 .1 .1 .1 .0 .1, cc)
 
 pub fill-shares : FillShares
 unfolding fillAt weightAt
 fill-shares l n a given is =
-    let facts = answered l n a given is in
+    let facts = fill-given l n a given is in
     fill-unique (periods (l .opening)) (a .marks) (shapeValue l a) (a .advance) (facts .0) given .0 (facts .1)
 
 pub fill-near : FillNear
@@ -344,7 +337,7 @@ fill-near l n a given is k h missing =
     let P = periods (l .opening) in
     let value = shapeValue l a in
     let weight = weightBy (a .marks) value in
-    let facts = answered l n a given is in
+    let facts = fill-given l n a given is in
     let some : sumBelow P weight ≢ 0 = rw (sum-missing P (a .marks) value) (facts .0) in
     let near = rw (weight-missing P (a .marks) value k missing, sum-missing P (a .marks) value) at (filled-near P weight (a .advance) some k) in
     rw (facts .1, getD-tabulate P (filledValue P weight (a .advance)) k h) (

@@ -195,6 +195,13 @@ isRefusal (bandIs b) = false
 isRefusal (filledAre v) = false
 isRefusal (coverageIs c) = false
 
+-- an answer that is no refusal is what was to be given
+pub answered : (v : Verdict) (given heard : Answer) → isRefusal heard ≡ false → answer v given ≡ heard → (v .number ≡ 0) × (given ≡ heard)
+answered v given heard given-one is =
+    cases (eqb (v .number) 0)
+    (λ q. let passed = eqb-true (v .number) 0 q in (passed, sym (answer-none v given passed) ∙ is))
+    (λ q. absurd (true≢false (sym (ap isRefusal (sym is ∙ answer-some v given (eqb-false (v .number) 0 q))) ∙ given-one)))
+
 -- the answer of a call whose check goes by rows
 pub goes-by : (v : Verdict) {rows : List Row} (given : Answer) → isRefusal given ≡ false → Decides v rows → GoesBy rows given (answer v given)
 goes-by v {rows} given is (all-hold passed all) =

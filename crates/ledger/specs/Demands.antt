@@ -12,7 +12,7 @@ use Rattle.metering.specs.Mpan.{mpanValid}
 use Rattle.metering.specs.Calendar.{durationKnown, periodsPerDay}
 use Rattle.metering.specs.Sum.{sumBelow}
 use Rattle.metering.specs.Average.{Rounded}
-use Rattle.ledger.specs.Method.{Category, sameFamily, Picture, wattHours, present, total, absent, freshIn, Flag, A, D, E, N, flagNumber, Cell, carried, cellFrom, latest, Coverage}
+use Rattle.ledger.specs.Method.{Category, sameFamily, Picture, wattHours, present, total, absent, freshIn, Flag, A, D, E, N, flagNumber, Cell, carried, cellFrom, latest, movedCell, Coverage}
 use Rattle.ledger.specs.Table.{tabulate, chosenBelow}
 use Rattle.ledger.specs.Net.{activeImport, activeExport, onSide, sumOver, anyOf, netOn}
 use Rattle.ledger.specs.Band.{BandCall}
@@ -577,15 +577,30 @@ abbrev pub familyOf : Ledger → ℕ → ℕ → Bool
 familyOf l c b = sameFamily (category (l .opening) c) (category (l .opening) b)
 
 -- an A cell averages its category's readings, a D cell its family's, and a copy what the cell at its origin does
-abbrev pub SumsShown : Type 0
-SumsShown =
-    (l : Ledger) (d c j : ℕ) →
-    let a = cellAt l d c j in
+abbrev pub ShowsSum : Ledger → ℕ → ℕ → ℕ → Cell → Type 0
+ShowsSum l d c j a =
     (a .flag ≡ A → Averages l d (eqb c) j a)
     × (a .flag ≡ D → Averages l d (familyOf l c) j a)
     × (a .flag ≡ E →
     ((cellAt l (a .origin) c j .flag ≡ A) × Averages l (a .origin) (eqb c) j a)
     ⊎ ((cellAt l (a .origin) c j .flag ≡ D) × Averages l (a .origin) (familyOf l c) j a))
+
+abbrev pub SumsShown : Type 0
+SumsShown = (l : Ledger) (d c j : ℕ) → ShowsSum l d c j (cellAt l d c j)
+
+-- on the engine: where the store, after any calls, answers a cell read with a cell, it is such a one, by the pictures of the ledger beside it
+abbrev pub EngineShowsSums : Type 0
+EngineShowsSums =
+    (p : Parts) (a : Opening) (items : List Item) (n : Lengths) (d c j : ℕ) (given : Cell) → Accepts p a → BodiesOfBytes items →
+    LastAnswer (openedParts p a) items (record { lent = n; call = readCell d c j }) (cellIs given) →
+    ShowsSum (ledgerBeside p a items) d c j given
+
+-- a cell counts as moved exactly where one of the five differs
+abbrev pub MovedExact : Type 0
+MovedExact =
+    (a b : Cell) →
+    ((movedCell a b ≡ 0) ↔ ((a .flag ≡ b .flag) × (a .value ≡ b .value) × (a .count ≡ b .count) × (a .origin ≡ b .origin) × (a .remainder ≡ b .remainder)))
+    × (movedCell a b ≤ 1)
 
 -- ---- Net reads (change request 2026-13)
 
