@@ -211,8 +211,8 @@ uint64_t jihoweka_receive(
    nearest earlier run date of the same day type. Later run dates of the day type follow, wherever
    they have no shape of their own; totals and coverage of this and later dates follow. Writes cells
    and days.
-   Results: moved, how many cells of all dates differ from before; a date not run has cells N.
-   Checks: 1, 9. */
+   Results: moved, how many cells of all dates differ from before in any field of the cell read, its
+   remainder too; a date not run has cells N. Checks: 1, 9. */
 uint64_t jihoweka_run(
     const uint8_t *settings, size_t settings_length,
     const uint64_t *meters, size_t meters_length,
