@@ -11,17 +11,18 @@ LARGEST = 2 ** 64 - 1                      # number, and entry of days
 
 
 class Case:
-    """A store with a meter for each category, opened on parts that are full of other things.
+    """A store opened on parts that are full of other things, with a meter for each category.
 
-    A category is its key and its window.
+    A category is its key and its window. Other meters may be given, each by its category.
     """
 
-    def __init__(self, library, reached, duration, day_types, *categories):
+    def __init__(self, library, reached, duration, day_types, *categories, meters=None):
         self.store, self.duration, self.categories = Store(library, reached), duration, categories
-        self.sizes = Sizes(duration, len(categories), len(categories), len(day_types))
+        self.meters = meters or range(len(categories))
+        self.sizes = Sizes(duration, len(self.meters), len(categories), len(day_types))
         self.store.parts = {part: b'\xa5' * (WIDTHS[part] * (least + PAST))
                             for part, least in self.sizes.least().items()}
-        self.opening = (duration, len(categories),
+        self.opening = (duration, len(self.meters),
                         b''.join(bytes((*category, 0, 1)) for category in categories),
                         bytes(day_types))
         self.open()
@@ -29,15 +30,14 @@ class Case:
     def open(self):
         make(self.store, ('ok',), 'opening', *self.opening)
         assert not any(self.store.parts['days'][:-WIDTHS['days'] * PAST]), 'days is not emptied'
-        for category in range(self.sizes.categories):
-            make(self.store, ('ok',), 'registration', valid_mpan(category + 1), 0, 0, category,
-                 7, 1, TOP)
+        for meter, category in enumerate(self.meters, 1):
+            make(self.store, ('ok',), 'registration', valid_mpan(meter), 0, 0, category, 7, 1, TOP)
 
-    def receive_day(self, date, readings, category=0):
+    def receive_day(self, date, readings, meter=0):
         """A set with these readings, period -> Wh."""
         body = b''.join(reading(self.duration * period, wh) for period, wh in readings.items())
-        quantity = self.categories[category][3]
-        make(self.store, ('ok',), 'reception', 7, valid_mpan(category + 1), date, self.duration,
+        quantity = self.categories[self.meters[meter]][3]
+        make(self.store, ('ok',), 'reception', 7, valid_mpan(meter + 1), date, self.duration,
              quantity, body)
 
     def run(self, date, moved):

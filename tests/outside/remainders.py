@@ -12,47 +12,30 @@ import struct
 import sys
 from collections import Counter
 
-from cases import LARGEST, Case
-from library import WIDTHS, Library, Sizes, Store, make
-from streams import TOP, valid_mpan
-from worked_example import reading
+from cases import LARGEST, PAST, Case
+from library import WIDTHS, Library
+from streams import TOP
 
 HERE, THERE, ADVANCED = (1, 1, 1, 1, 1, 0), (1, 2, 1, 1, 1, 0), (2, 0, 0, 1, 1, 0)
 BLANK = 'N', 0, 0, 65535, 0
 
 
-class Crowd:
-    """A store whose meters are all in category 0; the others are empty, and every set has period 1."""
-
-    def __init__(self, library, reached, meters, dates, *categories):
-        self.store, self.meters = Store(library, reached), meters
-        sizes = Sizes(30, meters, len(categories), dates)
-        self.store.parts = {part: b'\xa5' * (WIDTHS[part] * least)
-                            for part, least in sizes.least().items()}
-        records = b''.join(bytes((*category, 0, 1)) for category in categories)
-        make(self.store, ('ok',), 'opening', 30, meters, records, bytes([1] * dates))
-        for meter in range(meters):
-            make(self.store, ('ok',), 'registration', valid_mpan(meter + 1), 0, 0, 0, 7, 1, TOP)
+class Crowd(Case):
+    """A store whose meters are all in category 0; the others have none."""
 
     def receive(self, date, *counts):
-        """Sets of a date by (how many meters, Wh); None is an empty set."""
+        """Sets of a date by (how many meters, Wh in period 1); None is an empty set."""
         values = [wh for count, wh in counts for _ in range(count)]
-        assert len(values) <= self.meters
-        for meter, wh in enumerate(values, 1):
-            body = b'' if wh is None else reading(30, wh)
-            make(self.store, ('ok',), 'reception', 7, valid_mpan(meter), date, 30, 1, body)
-
-    def run(self, date, moved):
-        make(self.store, ('ok', moved), 'run', date)
+        for meter, wh in enumerate(values):
+            self.receive_day(date, {} if wh is None else {1: wh}, meter)
 
     def cells(self, *rows):
         """(date, category, period) and its five fields."""
         for place, (flag, *rest) in rows:
-            make(self.store, ('ok', ord(flag), *rest), 'cell', *place)
-            self.store.reached['by hand'] += 1
+            self.ask((ord(flag), *rest), 'cell', *place)
 
 
-def worked(store, case):
+def worked(store):
     """10, 11 and 13 Wh; then 12 in place of 13, then nothing in its place."""
     crowd = store(3, 2, HERE, THERE, ADVANCED)
 
@@ -76,7 +59,7 @@ def worked(store, case):
     crowd.run(1, 0)
 
 
-def ends(store, case):
+def ends(store):
     """1,024 readings: the least and the greatest remainder, with the greatest values."""
     crowd = store(1024, 2, HERE, THERE)
     crowd.receive(0, (1024, 7))
@@ -106,7 +89,7 @@ def ends(store, case):
     crowd.cells(((0, 0, 1), BLANK), ((0, 1, 1), BLANK), ((1, 0, 1), BLANK), ((1, 1, 1), BLANK))
 
 
-def last_date(store, case):
+def last_date(store):
     """The greatest origin, and a chain over all dates."""
     crowd = store(2, 800, HERE, THERE)
     crowd.receive(798, (1, 1), (1, 2))
@@ -127,29 +110,28 @@ def last_date(store, case):
     crowd.cells(((797, 1, 1), ('E', 5, 2, 0, 0)), ((798, 1, 1), ('D', 2, 2, 798, -1)))
 
 
-def foreign(store, case):
-    """Entries that no run made read as cells, whatever their bits; the first is that of a run date."""
-    made = case(15, [1], HERE)
+def foreign(store):
+    """Entries that no run made read as cells, whatever their bits."""
+    made = store(1, 1, HERE)
     words = {2 ** 31: BLANK, LARGEST: ('E', TOP, 1024, 1023, 511), 1: ('A', 0, 1, 0, -512),
              2: ('D', 0, 1, 0, -512), 3 + 4 * 1023: ('E', 0, 1024, 0, -512),
              LARGEST - 3: ('N', TOP, 0, 65535, 0), 4: BLANK, 2 ** 32: ('N', 1, 0, 65535, 0),
              2 + 4096 * 1023: ('D', 0, 1, 1023, -512), 1 + 2 ** 31: ('A', 0, 1, 0, 0),
              1 + 2 ** 22: ('A', 0, 1, 0, -511), 0: BLANK}
     row = list(words)
-    past = made.store.parts['cells'][-2 * WIDTHS['cells']:]
-    row += [1] * (96 - len(row))
-    made.store.replace({**made.store.parts, 'cells': struct.pack('96Q', *row) + past})
-    for period, (flag, *rest) in enumerate(words.values(), 1):
-        made.ask((ord(flag), *rest), 'cell', 0, 0, period)
+    past = made.store.parts['cells'][-PAST * WIDTHS['cells']:]
+    row += [1] * (48 - len(row))
+    made.store.replace({**made.store.parts, 'cells': struct.pack('48Q', *row) + past})
+    made.cells(*(((0, 0, period), cell) for period, cell in enumerate(words.values(), 1)))
     made.cut('cell', 0, 0, 1)
     # A first entry of 0 says that the date is not run; the rest does not matter.
-    made.store.replace({**made.store.parts, 'cells': struct.pack('96Q', 0, *row[1:]) + past})
+    made.store.replace({**made.store.parts, 'cells': struct.pack('48Q', 0, *row[1:]) + past})
     made.ask(14, 'cell', 0, 0, 2)
     # A run puts N into all places; a 0 counts as N, so the others moved: all but the first two.
     made.store.replace({**made.store.parts,
-                        'cells': struct.pack('96Q', 0, 2 ** 31, *[1] * 94) + past})
-    made.run(0, 94)
-    made.ask((ord('N'), 0, 0, 65535, 0), 'cell', 0, 0, 96)
+                        'cells': struct.pack('48Q', 0, 2 ** 31, *[1] * 46) + past})
+    made.run(0, 46)
+    made.cells(((0, 0, 48), BLANK))
 
 
 def main():
@@ -158,14 +140,11 @@ def main():
     faulthandler.enable()                  # an access past an array ends the process
     library, reached = Library(sys.argv[1]), Counter()
 
-    def store(*opening):
-        return Crowd(library, reached, *opening)
-
-    def case(*opening):
-        return Case(library, reached, *opening)
+    def store(meters, dates, *categories):
+        return Crowd(library, reached, 30, [1] * dates, *categories, meters=[0] * meters)
 
     for cases in (worked, ends, last_date, foreign):
-        cases(store, case)
+        cases(store)
     print(f'remainders: {reached["by hand"]} cells as worked out by hand')
 
 

@@ -270,7 +270,7 @@ def nets_and_bands(store):
     """A net's week and the dates of a band follow a rerun, on the copies too."""
     case = store(30, (1, 1, 1, 2, 1, 1, 1, 1, 1), FIRST, EXPORT, SECOND)
     case.receive_day(0, {1: 400, 2: 100})
-    case.receive_day(0, {1: 150, 2: 350}, category=1)
+    case.receive_day(0, {1: 150, 2: 350}, meter=1)
     case.receive_day(3, {3: 20})           # of the other day type; no export
     for date, moved in enumerate((6, 6, 6, 2, 6, 6, 6, 6)):
         case.run(date, moved)
@@ -288,7 +288,7 @@ def nets_and_bands(store):
     case.band(0, 0, 3, category=1, day_type=2)
     # Late days for date 0. Nothing changes before it is run again.
     case.receive_day(0, {1: 400, 2: 101, 3: 9})
-    case.receive_day(0, {1: 0, 2: 600}, category=1)
+    case.receive_day(0, {1: 0, 2: 600}, meter=1)
     case.net(7, (0, 20), [250, -250], 3)
     case.band(500, 500, 0, 1, 2, 4, 5, 6, 7)
     # Two cells of each import, two of the export, on seven dates; 510 Wh less 600.
@@ -419,7 +419,7 @@ def foreign_nets(store):
     """A net's periods and whether its date is run are the cells', its week is that of the days."""
     case = store(30, (1, 1, 1), FIRST, EXPORT, SECOND)
     case.receive_day(0, {1: 400})
-    case.receive_day(0, {1: 150}, category=1)
+    case.receive_day(0, {1: 150}, meter=1)
     for date in 0, 1:
         case.run(date, 3)
     case.put_days((0, 0, LARGEST, 0), (0, 0, RUN + 7, 0), (0, 0, 2 ** 47, 0))

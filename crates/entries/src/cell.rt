@@ -78,9 +78,10 @@ impl Cell {
     pub fn carried(self) -> Cell
         ensures { λ r. ⌜ cellMeant r ≡ carried (cellMeant self) ⌝ }
     {
+        let blank = Cell::blank();
         let flag = self.flag;
         match flag {
-            Flag::N => Cell::blank(),
+            Flag::N => blank,
             _ => Cell {
                 flag: Flag::E,
                 value: self.value,
