@@ -1,5 +1,6 @@
 /* A head-end on Jihoweka: opens a store, registers meters, receives their days, runs dates, reads,
-   fills a hole, saves the store, loads it again and goes on from there with a late day.
+   fills a hole, saves the store, loads it again and goes on from there with a late day, whose
+   rerun it looks at before doing it.
 
        head_end DAYS STORE
 
@@ -105,9 +106,9 @@ static const char *name_of(uint64_t number) {
         NAME(ACCEPTED); NAME(SHORT); NAME(CATEGORY_UNKNOWN); NAME(SIZE); NAME(CATEGORY_RECORD);
         NAME(DAY_TYPE); NAME(MPAN); NAME(NOT_REGISTERED); NAME(STORE_FULL); NAME(DATE);
         NAME(START_TOO_EARLY); NAME(SET_HELD); NAME(NINTH_REGISTRATION); NAME(BODY); NAME(NOT_RUN);
-        NAME(RANGE); NAME(REGISTRATION); NAME(NOTHING_TO_FILL); NAME(NO_PARTNER); NAME(SENDER);
-        NAME(QUANTITY); NAME(DURATION); NAME(END_MINUTE); NAME(DUPLICATE); NAME(DE_ENERGISED);
-        NAME(DISCONNECTED); NAME(ZERO_ESTIMATE); NAME(ABOVE_LIMIT);
+        NAME(RANGE); NAME(REGISTRATION); NAME(NOTHING_TO_FILL); NAME(DRAFT_SHORT); NAME(NO_PARTNER);
+        NAME(SENDER); NAME(QUANTITY); NAME(DURATION); NAME(END_MINUTE); NAME(DUPLICATE);
+        NAME(DE_ENERGISED); NAME(DISCONNECTED); NAME(ZERO_ESTIMATE); NAME(ABOVE_LIMIT);
         default: return "UNKNOWN";
     }
 #undef NAME
@@ -219,6 +220,37 @@ static void print_cell(const struct store *s, uint64_t date, uint64_t category, 
     if (fields[JIHOWEKA_ORIGIN] == JIHOWEKA_NO_ORIGIN) printf(" -");
     else printf(" %" PRId64, fields[JIHOWEKA_ORIGIN]);
     printf(" %" PRId64 "\n", fields[JIHOWEKA_REMAINDER]);
+}
+
+/* What a run of the date would do. The store stays as it is, the draft gets the date's cells. */
+static void preview_date(const struct store *s, uint64_t date, uint64_t *draft, size_t length) {
+    int64_t fields[JIHOWEKA_FIELDS];
+    uint64_t number = jihoweka_preview(PART(settings), PART(meters), PART(readings), PART(cells),
+                                       PART(days), draft, length, date, RESULTS);
+    printf("preview %" PRIu64 ": ", date);
+    if (accepted(number, fields)) printf("%" PRId64 " cells would move\n", fields[JIHOWEKA_MOVED]);
+}
+
+/* Flag and value of each period, eight to a line, out of the draft or as the date was run. */
+static void print_row(const struct store *s, const uint64_t *draft, size_t length, uint64_t date,
+                      uint64_t category, int from_draft) {
+    int64_t fields[JIHOWEKA_FIELDS] = {0}; /* a refused row has no place */
+    uint64_t number;
+    uint64_t periods = jihoweka_read_row(PART(settings), PART(cells), draft, length, date, category,
+                                         from_draft != 0, &number);
+    printf("row of date %" PRIu64 ", category %" PRIu64, date, category);
+    printf(", %s: ", from_draft ? "draft" : "published");
+    if (!accepted(number, fields)) return;
+    const uint64_t *row = from_draft
+        ? draft + JIHOWEKA_DRAFT_ROW(PERIODS, category)
+        : s->cells + JIHOWEKA_PUBLISHED_ROW(CATEGORIES, PERIODS, date, category);
+    printf("%" PRIu64 " periods", periods);
+    for (size_t j = 0; j < periods; j++) {
+        jihoweka_read_entry(row[j], RESULTS);
+        printf("%s%c", j % 8 == 0 ? "\n  " : " ", (char)fields[JIHOWEKA_FLAG]);
+        print_kwh(" ", fields[JIHOWEKA_VALUE]);
+    }
+    putchar('\n');
 }
 
 /* Eight periods to a line; a star says that a shape in the number is missing. */
@@ -353,12 +385,20 @@ static void shape_dates(struct store *s) {
     print_coverage(s, 2, 1); /* not one period of date 2 has a shape there */
 }
 
-/* A meter's date 0 comes again. What was copied from it follows once date 0 is run again. */
+/* A meter's date 0 comes again. What was copied from it follows once date 0 is run again; before
+   that its new row is looked at beside the published one. */
 static void correct_first_date(struct store *s) {
     struct day late = {METER_LIST[0].mpan, 0, 0, {0}};
     for (uint64_t end = DURATION; end <= 1440; end += DURATION) add_record(&late, end, 1, 2000);
     receive_day(s, &late);
     print_totals(s, 1, 0);
+    uint64_t draft[JIHOWEKA_DRAFT_LENGTH(CATEGORIES, PERIODS)];
+    const size_t length = JIHOWEKA_DRAFT_LENGTH(CATEGORIES, PERIODS);
+    preview_date(s, 0, draft, length);
+    print_row(s, draft, length, 0, 0, 0);
+    print_row(s, draft, length, 0, 0, 1);
+    preview_date(s, 0, draft, length - 1); /* no room for a date */
+    print_row(s, draft, length, DATES - 1, 0, 0); /* not run */
     run_date(s, 0);
     print_totals(s, 0, 0);
     print_totals(s, 1, 0);

@@ -44,6 +44,16 @@ mod c {
             date: u64,
             fields: *mut i64, fields_length: usize,
         ) -> u64;
+        pub fn jihoweka_preview(
+            settings: *const u8, settings_length: usize,
+            meters: *const u64, meters_length: usize,
+            readings: *const u64, readings_length: usize,
+            cells: *const u64, cells_length: usize,
+            days: *const u64, days_length: usize,
+            draft: *mut u64, draft_length: usize,
+            date: u64,
+            fields: *mut i64, fields_length: usize,
+        ) -> u64;
         pub fn jihoweka_read_totals(
             settings: *const u8, settings_length: usize,
             days: *const u64, days_length: usize,
@@ -54,6 +64,17 @@ mod c {
             settings: *const u8, settings_length: usize,
             cells: *const u64, cells_length: usize,
             date: u64, category: u64, period: u64,
+            fields: *mut i64, fields_length: usize,
+        ) -> u64;
+        pub fn jihoweka_read_row(
+            settings: *const u8, settings_length: usize,
+            cells: *const u64, cells_length: usize,
+            draft: *const u64, draft_length: usize,
+            date: u64, category: u64, from_draft: u64,
+            number: *mut u64,
+        ) -> u64;
+        pub fn jihoweka_read_entry(
+            entry: u64,
             fields: *mut i64, fields_length: usize,
         ) -> u64;
         pub fn jihoweka_read_net(
@@ -127,6 +148,25 @@ struct Cell {
     remainder: i64,
 }
 
+impl Cell {
+    fn of(fields: [i64; FIELDS]) -> Cell {
+        Cell {
+            flag: char::from(fields[0] as u8),
+            value: fields[1],
+            count: fields[2],
+            origin: known(fields[3]),
+            remainder: fields[4],
+        }
+    }
+
+    /// That of an entry of a row; every number reads as some cell.
+    fn of_entry(entry: u64) -> Result<Cell, Refusal> {
+        // SAFETY: fields is our own.
+        results(|fields, length| unsafe { c::jihoweka_read_entry(entry, fields, length) })
+            .map(Cell::of)
+    }
+}
+
 struct Net {
     tot: i64,
     tot7: i64,
@@ -150,6 +190,7 @@ struct Store {
     readings: Vec<u64>,
     cells: Vec<u64>,
     days: Vec<u64>,
+    categories: usize,
     periods: usize,
 }
 
@@ -180,6 +221,7 @@ impl Store {
             readings: vec![0; dates * meters * (1 + periods)],
             cells: vec![0; dates * categories * periods],
             days: vec![0; 4 * categories * dates],
+            categories,
             periods,
         }
     }
@@ -250,6 +292,24 @@ impl Store {
         .map(|fields| fields[0])
     }
 
+    /// How many cells a run would move. The draft gets the date's cells.
+    fn preview(&self, draft: &mut [u64], date: u64) -> Result<i64, Refusal> {
+        // SAFETY: the five parts are only read; draft is borrowed as mutable, fields is our own.
+        results(|fields, length| unsafe {
+            c::jihoweka_preview(
+                self.settings.as_ptr(), self.settings.len(),
+                self.meters.as_ptr(), self.meters.len(),
+                self.readings.as_ptr(), self.readings.len(),
+                self.cells.as_ptr(), self.cells.len(),
+                self.days.as_ptr(), self.days.len(),
+                draft.as_mut_ptr(), draft.len(),
+                date,
+                fields, length,
+            )
+        })
+        .map(|fields| fields[0])
+    }
+
     /// TOT, OFF, PEAK, TOT7, OFF7, PEAK7, days7, ANN, days, FRESH, BLANK.
     fn totals(&self, date: u64, category: u64) -> Result<[i64; FIELDS], Refusal> {
         // SAFETY: both parts are only read; fields is our own.
@@ -273,13 +333,31 @@ impl Store {
                 fields, length,
             )
         })
-        .map(|fields| Cell {
-            flag: char::from(fields[0] as u8),
-            value: fields[1],
-            count: fields[2],
-            origin: known(fields[3]),
-            remainder: fields[4],
-        })
+        .map(Cell::of)
+    }
+
+    /// A category's row as the date was run, or out of the draft where one is to be taken.
+    fn row<'a>(
+        &'a self, draft: &'a [u64], date: u64, category: u64, from_draft: bool,
+    ) -> Result<&'a [u64], Refusal> {
+        let mut number = 0;
+        // SAFETY: both parts and the draft are only read; number is our own.
+        let length = unsafe {
+            c::jihoweka_read_row(
+                self.settings.as_ptr(), self.settings.len(),
+                self.cells.as_ptr(), self.cells.len(),
+                draft.as_ptr(), draft.len(),
+                date, category, u64::from(from_draft),
+                &mut number,
+            )
+        } as usize;
+        if number != 0 {
+            return Err(Refusal { number, place: 0 });
+        }
+        let (date, category) = (date as usize, category as usize);
+        let (array, date) = if from_draft { (draft, 0) } else { (&self.cells[..], date) };
+        let first = (date * self.categories + category) * self.periods;
+        Ok(&array[first..first + length])
     }
 
     fn net(&self, date: u64, category: u64, all_groups: bool) -> Result<Net, Refusal> {
@@ -415,6 +493,7 @@ impl fmt::Display for Refusal {
             15 => "RANGE",
             16 => "REGISTRATION",
             17 => "NOTHING_TO_FILL",
+            18 => "DRAFT_SHORT",
             26 => "NO_PARTNER",
             1001 => "SENDER",
             1002 => "QUANTITY",
@@ -546,6 +625,28 @@ fn date_or_dash(date: Option<i64>) -> String {
     date.map_or("-".to_string(), |date| date.to_string())
 }
 
+/// What a run of the date would do. The store stays as it is, the draft gets the date's cells.
+fn preview_date(store: &Store, draft: &mut [u64], date: u64) {
+    let asked = format!("preview {date}");
+    say(asked, store.preview(draft, date), |moved| format!("{moved} cells would move"));
+}
+
+/// Flag and value of each period, eight to a line, out of the draft or as the date was run.
+fn print_row(store: &Store, draft: &[u64], date: u64, category: u64, from_draft: bool) {
+    let form = if from_draft { "draft" } else { "published" };
+    let asked = format!("row of date {date}, category {category}, {form}");
+    let row = store.row(draft, date, category, from_draft);
+    let cells = row.and_then(|row| row.iter().map(|&entry| Cell::of_entry(entry)).collect());
+    say(asked, cells, |cells: Vec<Cell>| {
+        let mut text = format!("{} periods", cells.len());
+        for (j, cell) in cells.iter().enumerate() {
+            text += if j % 8 == 0 { "\n  " } else { " " };
+            text += &format!("{} {}", cell.flag, Kwh(cell.value));
+        }
+        text
+    });
+}
+
 /// Eight periods to a line; a star says that a shape in the number is missing.
 fn print_net(store: &Store, date: u64, category: u64, all_groups: bool) {
     let form = if all_groups { "all groups" } else { "own group" };
@@ -658,12 +759,19 @@ fn shape_dates(store: &mut Store) {
     print_coverage(store, 2, 1); // not one period of date 2 has a shape there
 }
 
-/// A meter's date 0 comes again. What was copied from it follows once date 0 is run again.
+/// A meter's date 0 comes again. What was copied from it follows once date 0 is run again; before
+/// that its new row is looked at beside the published one.
 fn correct_first_date(store: &mut Store) {
     let mut late = empty_day(METERS[0].0, 0);
     (30..=1440).step_by(DURATION).for_each(|end| add_record(&mut late, end, 1, 2000));
     receive_day(store, &late);
     print_totals(store, 1, 0);
+    let mut draft = vec![0; store.categories * store.periods];
+    preview_date(store, &mut draft, 0);
+    print_row(store, &draft, 0, 0, false);
+    print_row(store, &draft, 0, 0, true);
+    preview_date(store, &mut draft[1..], 0); // no room for a date
+    print_row(store, &draft, DATES - 1, 0, false); // not run
     run_date(store, 0);
     print_totals(store, 0, 0);
     print_totals(store, 1, 0);

@@ -18,6 +18,10 @@
    Header and library go together: a later version may lay the parts out anew, and its calls may be
    lent other parts.
 
+   A draft is one array more, of uint64_t, and no part of the store: a preview writes the cells into
+   it that a run would publish. It holds entries as `cells` has them, and remembers neither the
+   store nor the date that they are of.
+
    What a call returns
      JIHOWEKA_ACCEPTED, or the number of the first check that failed; each call lists its checks in
      their order. The results of an accepted call stand at the front of `fields`: energies in Wh, a
@@ -25,26 +29,30 @@
      sets to the place of the bad record, category record or day type, from 1, or to 0 where the
      number names none. All other entries of `fields` keep their contents, all of them where an
      accepted call has no results. Where `fields` has fewer than JIHOWEKA_FIELDS entries, every call
-     returns JIHOWEKA_SHORT before all its checks and writes nothing at all.
+     that has `fields` returns JIHOWEKA_SHORT before all its checks and writes nothing at all.
+     One call has another form: jihoweka_read_row returns the length of a row. It has no `fields`,
+     and puts its number into a lent number of its own.
 
    What is promised whatever comes
      Every value of every number is allowed, and is refused where it is out of range, but for a day
      type that is searched for: of such a one there is no date. (A sender has 16 bits, a limit and
      an advance have 32, as in the trade's messages: C itself cuts down a wider number, so look at
      it before.)
-     Every content of the parts is allowed too, also parts that were damaged or do not belong
-     together: a call then ends, and reads and writes nothing outside its arrays.
+     Every content of the parts and of a draft is allowed too, also parts that were damaged or do
+     not belong together: a call then ends, and reads and writes nothing outside its arrays.
 
    The caller's duty, all of it
      - An array is a pointer and a count of its entries, and that many entries are there. A null
-       pointer is allowed with the count 0 only.
+       pointer is allowed with the count 0 only. One that has no count is to one entry.
      - A pointer is aligned for its type.
-     - An array that a call writes overlaps no other array of the same call: parts, `fields` and
-       lists for results alike.
+     - An array that a call writes overlaps no other array of the same call: parts, draft, `fields`,
+       lists and the number for results alike.
      - While a call goes on, nothing else writes its arrays, and nothing else reads those that it
-       writes. So calls on different stores may go on at the same time, and so may reads of one
-       store, each with `fields` and lists of its own.
-     - There is stack for the call: 160 KB for jihoweka_run, 4 KB for any other. */
+       writes. So calls on different stores may go on at the same time, and so may reads and
+       previews of one store, each with `fields`, lists and number of its own, and each preview with
+       a draft of its own, of which no row is read meanwhile.
+     - There is stack for the call: 160 KB for jihoweka_run and jihoweka_preview, 4 KB for any
+       other. */
 #ifndef JIHOWEKA_H
 #define JIHOWEKA_H
 
@@ -81,6 +89,7 @@ enum jihoweka_number {
                                          past the last date */
     JIHOWEKA_NOTHING_TO_FILL = 17,    /* no period is missing, or the values of those that are add
                                          up to 0 */
+    JIHOWEKA_DRAFT_SHORT = 18,        /* the draft has fewer entries than a date has cells */
     JIHOWEKA_NO_PARTNER = 26,         /* not Smart import, or no export category to net it with */
     JIHOWEKA_SENDER = 1001,           /* not the one appointed at midday of the date */
     JIHOWEKA_QUANTITY = 1002,         /* not that of its category */
@@ -130,6 +139,14 @@ enum {
 #define JIHOWEKA_CELLS_LENGTH(categories, dates, periods) \
     ((size_t)(dates) * (size_t)(categories) * (size_t)(periods))
 #define JIHOWEKA_DAYS_LENGTH(categories, dates) (4 * (size_t)(categories) * (size_t)(dates))
+
+/* ---- the least length of a draft in entries, and where a category's row begins: in `cells`, for
+   a date, and in a draft; for dates and categories that are there */
+
+#define JIHOWEKA_DRAFT_LENGTH(categories, periods) ((size_t)(categories) * (size_t)(periods))
+#define JIHOWEKA_PUBLISHED_ROW(categories, periods, date, category) \
+    (((size_t)(date) * (size_t)(categories) + (size_t)(category)) * (size_t)(periods))
+#define JIHOWEKA_DRAFT_ROW(periods, category) ((size_t)(category) * (size_t)(periods))
 
 /* ---- calls
 
@@ -222,6 +239,21 @@ uint64_t jihoweka_run(
     uint64_t date,
     int64_t *fields, size_t fields_length);
 
+/* Shows what a run of the date would do: the store stays as it is. Writes the first
+   JIHOWEKA_DRAFT_LENGTH entries of `draft`, which become those that the run would leave in `cells`
+   for the date; its other entries keep their contents, all of them after a refusal.
+     draft  what it holds does not matter; JIHOWEKA_DRAFT_LENGTH entries at least, else 18
+   Results: moved, as the run would report it, later dates included. Checks: 1, 18, 9. */
+uint64_t jihoweka_preview(
+    const uint8_t *settings, size_t settings_length,
+    const uint64_t *meters, size_t meters_length,
+    const uint64_t *readings, size_t readings_length,
+    const uint64_t *cells, size_t cells_length,
+    const uint64_t *days, size_t days_length,
+    uint64_t *draft, size_t draft_length,
+    uint64_t date,
+    int64_t *fields, size_t fields_length);
+
 /* The totals of a run date and category.
    Results: TOT of the day, of it OFF in the off-peak window and PEAK outside it (both 0 without a
    window); TOT7, OFF7, PEAK7, the same over the run dates among this and the 6 before, and days7,
@@ -247,6 +279,30 @@ uint64_t jihoweka_read_cell(
     uint64_t date,
     uint64_t category,
     uint64_t period,
+    int64_t *fields, size_t fields_length);
+
+/* A category's row, of a run date out of `cells` or out of a draft. It is P entries of that array,
+   one for each period, and stays there: in `cells` from JIHOWEKA_PUBLISHED_ROW on, in `draft` from
+   JIHOWEKA_DRAFT_ROW on. Returns its length: P, or 0 where the call is refused.
+     draft       JIHOWEKA_DRAFT_LENGTH entries at least, else 18, also where it is not asked for
+     date        of the published row; the draft's is the same with every date that there is
+     from_draft  0: the published row; any other number: the draft's, whatever it holds
+     number      set to JIHOWEKA_ACCEPTED, or to the number of the first check that failed; all that
+                 this call writes
+   Checks: 1, 18, 9, 15, 14 (of a published row alone). */
+uint64_t jihoweka_read_row(
+    const uint8_t *settings, size_t settings_length,
+    const uint64_t *cells, size_t cells_length,
+    const uint64_t *draft, size_t draft_length,
+    uint64_t date,
+    uint64_t category,
+    uint64_t from_draft,
+    uint64_t *number);
+
+/* The cell of an entry of a row; every number reads as some cell.
+   Results: flag, value, count, origin, remainder, as of jihoweka_read_cell. Checks: none. */
+uint64_t jihoweka_read_entry(
+    uint64_t entry,
     int64_t *fields, size_t fields_length);
 
 /* Import less export of a run date, for each period. Writes the first P entries of both lists.

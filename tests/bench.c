@@ -1,5 +1,6 @@
 /* Times the calls at full size. Beside each stands, as a limit, memcpy of the bytes that the call
-   has to touch, in the same places and with the same strides.
+   has to touch, in the same places and with the same strides. Beside two of the previews stands the
+   run that they show instead: a preview should cost no more, which is a ratio of 1 at most.
 
      bench [ROUNDS]    7 to 99, 7 if not given
 
@@ -171,6 +172,20 @@ static void receive(size_t meter, uint64_t date, const uint8_t *body, size_t byt
 static int64_t run(uint64_t date) {
     must_accept("number of a run", jihoweka_run(ALL_PARTS, date, FIELDS));
     return fields[JIHOWEKA_MOVED];
+}
+
+static uint64_t draft[ROW];
+
+static int64_t preview(uint64_t date) {
+    must_accept("number of a preview", jihoweka_preview(ALL_PARTS, draft, ROW, date, FIELDS));
+    return fields[JIHOWEKA_MOVED];
+}
+
+static void read_row(uint64_t date, uint64_t category, uint64_t from_draft) {
+    uint64_t number, length = jihoweka_read_row(
+        CELL_PARTS, draft, ROW, date, category, from_draft, &number);
+    must_accept("number of a row read", number);
+    must_be("length of a row", (int64_t)length, PERIODS);
 }
 
 static void read_totals(uint64_t date, uint64_t category) {
@@ -373,6 +388,11 @@ static void receive_anew(void) {
 static void run_anew(size_t i) { must_be("cells moved by new sets", run(date_anew(i)), ROW); }
 static void run_anew_copy(size_t i) { copy_run(date_anew(i)); }
 
+/* What a run of these dates would do; then the run. */
+static void preview_anew(size_t i) {
+    must_be("cells that new sets would move", preview(date_anew(i)), ROW);
+}
+
 /* Late sets for dates that copy the one a week before, which has its readings. FRESH of the date
    changes, and with it the sums of the 365 dates from it on. */
 static size_t date_late(size_t i) { return WEEK + 9 * i; }
@@ -400,6 +420,16 @@ static void run_idle_copy(size_t i) {
     }
 }
 
+static void preview_idle(size_t i) {
+    must_be("cells that nothing would move", preview(picks[i].date), 0);
+    must_be("first cell of a draft", draft[0] == *column_at(picks[i].date, 0), 1);
+}
+static void preview_idle_copy(size_t i) {
+    copy_sets_out(picks[i].date);
+    copy_out(column_at(picks[i].date, 0), ROW_BYTES);
+    copy_bytes(draft, landing, ROW_BYTES);
+}
+
 static void copy_totals(size_t date, size_t category) {
     copy_out(day_at(date, category, DAY), 8);
     copy_stretch(date, YEAR, category, TOT);
@@ -412,6 +442,27 @@ static void cell(size_t i) { read_cell(picks[i].date, picks[i].category, picks[i
 static void cell_copy(size_t i) {
     copy_out(column_at(picks[i].date, picks[i].category) + picks[i].period - 1, 8);
 }
+
+static void published_row(size_t i) { read_row(picks[i].date, picks[i].category, 0); }
+static void published_row_copy(size_t i) { copy_out(column_at(picks[i].date, 0), 8); }
+
+static void drafted_row(size_t i) { read_row(picks[i].date, picks[i].category, 1); }
+static void drafted_row_copy(size_t i) {
+    (void)i;
+    copy_out(store.settings, 8);
+}
+
+/* With all its cells, as for a screen. */
+static void shown_row(size_t i) {
+    published_row(i);
+    const uint64_t *row = store.cells +
+        JIHOWEKA_PUBLISHED_ROW(CATEGORIES, PERIODS, picks[i].date, picks[i].category);
+    for (size_t j = 0; j < PERIODS; j++) {
+        must_accept("number of an entry", jihoweka_read_entry(row[j], FIELDS));
+        must_be("origin of an entry", fields[JIHOWEKA_ORIGIN], picks[i].date);
+    }
+}
+static void shown_row_copy(size_t i) { copy_column(picks[i].date, picks[i].category); }
 
 /* Every cell has readings of its own date. */
 static void coverage(size_t i) {
@@ -466,6 +517,9 @@ static void one_day_type(void) {
 static void receive_first(void) { receive_date(0, !half_held[0]); }
 static void run_worst(size_t i) {
     must_be("cells moved by the worst run", run(i), (int64_t)store.cells_length);
+}
+static void preview_worst(size_t i) {
+    must_be("cells that the worst run would move", preview(i), (int64_t)store.cells_length);
 }
 static void run_worst_copy(size_t i) {
     copy_sets_out(i);
@@ -555,6 +609,7 @@ struct row {
 };
 
 #define A_DATE "795 KB of readings, 49 KB of cells"
+#define THE_RUN "(the run of it instead)"
 #define BAND_BYTES "800 B of settings, 2 × 6.4 KB of days"
 
 static const struct row rows[] = {
@@ -571,13 +626,23 @@ static const struct row rows[] = {
      NULL, empty_dates, run_first, run_first_copy},
     {"run, 1,024 new sets", A_DATE " and 1.5 KB of days and back", DATES_ANEW, 0,
      NULL, receive_anew, run_anew, run_anew_copy},
+    {"preview, 1,024 new sets", THE_RUN, DATES_ANEW, 0,
+     NULL, receive_anew, preview_anew, run_anew},
     {"run, 1,024 late sets for a date of copies", A_DATE " and 188 KB of days and back", DATES_ANEW,
      0, NULL, receive_late, run_late, run_late_copy},
     {"run, nothing changed", A_DATE ", 1.5 KB of days", 200, 0,
      NULL, NULL, run_idle, run_idle_copy},
+    {"preview, nothing changed", A_DATE ", 49 KB into the draft", 200, 0,
+     NULL, NULL, preview_idle, preview_idle_copy},
     {"totals read over 365 dates", "(365 + 7 + 1) × 8 B of days", 20000, YEAR - 1,
      NULL, NULL, totals, totals_copy},
     {"cell read", "8 B of cells", PICKS, 0, NULL, NULL, cell, cell_copy},
+    {"row read, published", "8 B of cells", PICKS, 0,
+     NULL, NULL, published_row, published_row_copy},
+    {"row read, of the draft", "8 B of settings", PICKS, 0,
+     NULL, NULL, drafted_row, drafted_row_copy},
+    {"row read and its 96 entries", "768 B of cells", 10000, 0,
+     NULL, NULL, shown_row, shown_row_copy},
     {"coverage read", "2 × 8 B of days", PICKS, YEAR - 1, NULL, NULL, coverage, coverage_copy},
     {"net read, own group", "2 × 768 B of cells, 2 × 56 B of days", 10000, WEEK - 1,
      NULL, NULL, net_own, net_own_copy},
@@ -591,6 +656,8 @@ static const struct row rows[] = {
     {"the same where all 800 dates were blank",
      "795 KB of readings, 39 MB of cells and 1.6 MB of days and back", 1, 0,
      NULL, blank_dates, run_worst, run_from_blank_copy},
+    {"the worst preview: 4,915,200 cells would move", THE_RUN, 1, 0,
+     NULL, receive_first, preview_worst, run_worst},
     {"band search, all 800 dates are in the band", BAND_BYTES, 2000, 0,
      NULL, NULL, band_of_all, band_copy},
     {"band search, none of 800 dates is", BAND_BYTES, 2000, 0,

@@ -5,7 +5,8 @@
 LIBRARY is the shared library of include/jihoweka.h; library.py has what is tested
 of each call. Lists have the seeds S, S + 1 and so on, until N calls are made, so
 --calls 1 replays the list with seed S alone. Some lists are on a store of random
-bytes, and in some the store is damaged on the way. Exit status 1 at the first
+bytes, and in some the store is damaged on the way. Previews of a list share a draft,
+which is now and then cut, longer or another one. Exit status 1 at the first
 difference, at an access past an array, at a call that does not end, and if a
 number that can be reached was not in 20,000 calls or more.
 """
@@ -21,7 +22,7 @@ from collections import Counter
 
 from ledger import BLANK, DAY, EXPORT, IMPORT, Category, Ledger, Registration, opening
 from library import (ARRAYS, BITS, CALLS, FIELDS, HEADER, PARTS, WIDTHS, Difference, Library,
-                     Store, described, sizes_of, to_be_reached)
+                     Store, described, entries_of, sizes_of, to_be_reached)
 from streams import TOP, category_bytes, valid_mpan
 
 SECONDS = 60                               # after which a list of calls does not end
@@ -29,8 +30,10 @@ ENOUGH = 20_000                            # calls that reach every number
 LONGEST = 100_000                          # entries of an array; a longer one is not lent here
 # How often each call is made once the first meters are registered. Dates are mostly run again, and
 # what runs keep in days is read in between.
-TURNS = {'opening': 1, 'registration': 10, 'reception': 26, 'run': 26, 'totals': 26, 'cell': 12,
-         'net': 18, 'band': 18, 'fill': 12, 'fill_opted_out': 12, 'coverage': 26}
+TURNS = {'opening': 1, 'registration': 10, 'reception': 26, 'run': 26, 'preview': 16, 'totals': 26,
+         'cell': 12, 'row': 16, 'entry': 4, 'net': 18, 'band': 18, 'fill': 12, 'fill_opted_out': 12,
+         'coverage': 26}
+SWITCHES = (0, 0, 0, 0, 1, 2, 2 ** 8, 2 ** 16, 2 ** 32, 2 ** 63)       # 0 and any other number
 
 
 class Caller:
@@ -81,7 +84,7 @@ class Caller:
         if arguments is None:
             arguments = self.spoiled(name, getattr(self, name)())
         store, given = self.store, dict(zip(CALLS[name].arguments, arguments))
-        for each in (*CALLS[name].lists, 'fields'):
+        for each in (*CALLS[name].lists, CALLS[name].parameters[-1]):
             given[each] = self.rng.randbytes(WIDTHS[each] * self.length(each))
         given.update(self.lent_parts(name, arguments))
         self.made += 1
@@ -114,6 +117,8 @@ class Caller:
         rng, periods = self.rng, self.aims.periods
         if array == 'fields':
             return FIELDS if self.chance(0.94) else rng.choice((0, 1, 10, 11, 12, 20))
+        if array == 'number':
+            return 1
         if array == 'dates':
             return rng.choice((0, 1, 2, 3, 12))
         return periods + (rng.randint(0, 2) if self.chance(0.95) else rng.choice((-1, -periods)))
@@ -129,7 +134,7 @@ class Caller:
             least = sizes_of(ledger).least()
             for part in parts:
                 lent[part] = self.resized(part, least[part] + rng.choice((0, 0, 1, 2)))
-        if self.chance(0.1):
+        if parts and self.chance(0.1):
             part = rng.choice(parts)
             lent[part] = self.resized(part, rng.choice((
                 0, least[part] - 2, least[part] - 1, least[part] - 1, least[part], least[part] + 1,
@@ -141,6 +146,18 @@ class Caller:
         size = WIDTHS[part] * max(0, min(length, LONGEST))
         contents = self.store.parts[part][:size]
         return contents + self.rng.randbytes(size - len(contents))
+
+    def draft(self):
+        """The draft as it stands, now and then another one or of another length about its least."""
+        rng, least = self.rng, (self.store.sizes or sizes_of(self.aims)).row
+        contents = self.store.draft if self.chance(0.95) else b''
+        length = max(len(contents) // WIDTHS['draft'], least + rng.choice((0, 0, 1, 2)))
+        if self.chance(0.2):
+            length = max(0, rng.choice((
+                0, least - 2, least - 1, least - 1, least, least, least + 1, 2 * least,
+                rng.randint(0, least))))
+        more = length - len(contents) // WIDTHS['draft']
+        return contents + self.strange(more) if more > 0 else contents[:WIDTHS['draft'] * length]
 
     # Stores that the calls did not make
 
@@ -325,6 +342,12 @@ class Caller:
             return [self.waiting.pop()]
         return [self.rng.choice(self.dates)]
 
+    def preview(self):
+        """Mostly of a date that the next run may be of; sometimes all is as it was published."""
+        if self.waiting and self.chance(0.7):
+            return [self.draft(), self.waiting[-1]]
+        return [self.draft(), self.rng.choice(self.dates)]
+
     def date_to_read(self):
         """Mostly one that was run, else one that was not."""
         run = self.chance(0.75)
@@ -339,13 +362,21 @@ class Caller:
         period = self.rng.choice(self.periods) if self.chance(0.9) else self.rng.randint(1, last)
         return [self.date_to_read(), self.category(), period]
 
+    def row(self):
+        date, category = self.shape_to_read() if self.chance(0.5) else self.totals()
+        return [self.draft(), date, category, self.rng.choice(SWITCHES)]
+
+    def entry(self):
+        """One of the cells' or of a draft's, or any number."""
+        array = self.rng.choice((self.store.parts['cells'], self.draft(), self.strange(1)))
+        return [self.rng.choice(entries_of(array) or [0])]
+
     def net(self):
         rng, aims = self.rng, self.aims
         netted = [number for number, category in enumerate(aims.categories)
                   if category.quantity == IMPORT and aims.side(category, EXPORT, True)]
         category = rng.choice(netted) if netted and self.chance(0.9) else self.category()
-        all_groups = rng.choice((0, 0, 0, 0, 1, 2, 2 ** 8, 2 ** 16, 2 ** 32, 2 ** 63))
-        return [self.date_to_read(), category, all_groups]
+        return [self.date_to_read(), category, rng.choice(SWITCHES)]
 
     def band(self):
         """Ends at the TOT of a run date, next to it, or far off; 500 is that of a strange one."""

@@ -61,10 +61,11 @@ class Case:
         self.store.reached['by hand'] += 1
 
     def cut(self, name, *arguments):
-        """The call with each of its parts an entry too short, then with too few fields."""
+        """The call with each of its parts an entry too short, then with too few fields if any."""
         for part in CALLS[name].parts:
             least = WIDTHS[part] * self.sizes.least()[part]
             make(self.store, ('no', 1, 0), name, *arguments, length=self.sizes.periods,
                  **{part: self.store.parts[part][:least - WIDTHS[part]]})
-        make(self.store, ('no', 1, 0), name, *arguments, length=self.sizes.periods,
-             fields=bytes(WIDTHS['fields'] * (FIELDS - 1)))
+        if 'fields' in CALLS[name].parameters:
+            make(self.store, ('no', 1, 0), name, *arguments, length=self.sizes.periods,
+                 fields=bytes(WIDTHS['fields'] * (FIELDS - 1)))

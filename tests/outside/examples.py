@@ -66,6 +66,12 @@ def accepted():
     return 'accepted'
 
 
+def in_eights(first, periods):
+    """A first line, and below it the periods, eight to a line."""
+    return '\n  '.join((first, *(' '.join(periods[begin:begin + 8])
+                                 for begin in range(0, PERIODS, 8))))
+
+
 class Example:
     """The calls of the examples, and the lines that they have to write."""
 
@@ -100,6 +106,12 @@ class Example:
         # A late day for date 0: copies stand until it is run again, then they follow.
         yield self.receive(FIRST, 0, [(end, 1, 2000) for end in range(30, 1441, 30)])
         yield self.totals(1, 0)
+        draft = [None] * (len(CATEGORIES) * PERIODS)
+        yield self.preview(draft, 0)
+        yield self.row(draft, 0, 0, False)
+        yield self.row(draft, 0, 0, True)
+        yield self.preview(draft[:-1], 0)  # no room for a date
+        yield self.row(draft, 5, 0, False)
         yield self.run(0)
         yield self.totals(0, 0)
         yield self.totals(1, 0)
@@ -134,6 +146,19 @@ class Example:
     def run(self, date):
         return line(f'run {date}', self.ledger.run(date), '{} cells moved'.format)
 
+    def preview(self, draft, date):
+        return line(f'preview {date}', self.ledger.preview(draft, date),
+                    '{} cells would move'.format)
+
+    def row(self, draft, date, category, from_draft):
+        """Flag and value of each period, eight to a line."""
+        def words(cells):
+            shown = [f'{cell.flag} {kwh(cell.value)}' for cell in cells]
+            return in_eights(f'{len(cells)} periods', shown)
+        return line(f'row of date {date}, category {category}, '
+                    + ('draft' if from_draft else 'published'),
+                    self.ledger.row(draft, date, category, from_draft), words)
+
     def totals(self, date, category):
         def words(tot, off, peak, tot7, off7, peak7, days7, annual, days, fresh, blank):
             return (f'TOT {kwh(tot)} OFF {kwh(off)} PEAK {kwh(peak)} TOT7 {kwh(tot7)} '
@@ -152,8 +177,7 @@ class Example:
         """Eight periods to a line; a star behind a number is its mark."""
         def words(tot, tot7, numbers, marks):
             shown = [kwh(number) + '*' * mark for number, mark in zip(numbers, marks)]
-            rows = [' '.join(shown[begin:begin + 8]) for begin in range(0, PERIODS, 8)]
-            return '\n  '.join((f'TOT {kwh(tot)} TOT7 {kwh(tot7)}', *rows))
+            return in_eights(f'TOT {kwh(tot)} TOT7 {kwh(tot7)}', shown)
         form = 'all groups' if all_groups else 'own group'
         return line(f'net of date {date}, category {category}, {form}',
                     self.ledger.net(date, category, all_groups, PERIODS, PERIODS), words)

@@ -5,7 +5,8 @@
 Its functions with those that the crate `jihoweka` exports, parameter by parameter,
 and with the symbols of LIBRARY, which needs memcpy and memset and nothing else; its
 numbers with those of the calls; its layout with that of docs/STORE.md; its least
-lengths, as the compiler works them out, with the definitions that the proofs cite.
+lengths, as the compiler works them out, with the definitions that the proofs cite;
+where rows begin with the places of their first cells in docs/STORE.md.
 """
 
 import pathlib
@@ -22,7 +23,7 @@ HEADER = (ROOT / 'include' / 'jihoweka.h').read_text()
 # The crate's types as C has them; a slice is a pointer and a count.
 SLICES = {'&[u8]': 'const uint8_t *', '&[u64]': 'const uint64_t *',
           '&mut [u8]': 'uint8_t *', '&mut [u64]': 'uint64_t *', '&mut [i64]': 'int64_t *'}
-NUMBERS = {'u16': 'uint16_t ', 'u32': 'uint32_t ', 'u64': 'uint64_t '}
+NUMBERS = {'u16': 'uint16_t ', 'u32': 'uint32_t ', 'u64': 'uint64_t ', '&mut u64': 'uint64_t *'}
 
 
 def declared():
@@ -37,10 +38,11 @@ def exported():
     text = (ROOT / 'crates' / 'jihoweka' / 'src' / 'lib.rt').read_text()
     functions = {}
     for name, parameters in re.findall(
-            r'#\[no_mangle\]\npub extern "C" fn (\w+)\((.*?)\) -> u64\n', text, re.DOTALL):
+            r'#\[no_mangle\]\npub extern "C" fn (\w+)(?:<\'a>)?\((.*?)\) -> u64\n', text,
+            re.DOTALL):
         functions[name] = []
         for parameter in parameters.strip().rstrip(',').split(','):
-            word, kind = parameter.strip().split(': ')
+            word, kind = parameter.strip().replace("&'a ", '&').split(': ')
             if kind in SLICES:
                 functions[name] += [SLICES[kind] + word, f'size_t {word}_length']
             else:
@@ -71,16 +73,23 @@ def definitions():
 
 
 def worked_out(sizes):
-    """The header's least lengths for each (duration, M, C, T), by the C compiler."""
+    """The header's least lengths for each (duration, M, C, T), by the C compiler.
+
+    Also where the row of the last date and category begins, in cells and in a draft.
+    """
     rows = ''.join(
         f'    show(JIHOWEKA_SETTINGS_LENGTH({C}, {T}), JIHOWEKA_METERS_LENGTH({M}), '
         f'JIHOWEKA_READINGS_LENGTH({M}, {T}, JIHOWEKA_PERIODS({duration})), '
         f'JIHOWEKA_CELLS_LENGTH({C}, {T}, JIHOWEKA_PERIODS({duration})), '
-        f'JIHOWEKA_DAYS_LENGTH({C}, {T}));\n'
+        f'JIHOWEKA_DAYS_LENGTH({C}, {T}), '
+        f'JIHOWEKA_DRAFT_LENGTH({C}, JIHOWEKA_PERIODS({duration})), '
+        f'JIHOWEKA_PUBLISHED_ROW({C}, JIHOWEKA_PERIODS({duration}), {T} - 1, {C} - 1), '
+        f'JIHOWEKA_DRAFT_ROW(JIHOWEKA_PERIODS({duration}), {C} - 1));\n'
         for duration, M, C, T in sizes)
     program = ('#include "jihoweka.h"\n#include <stdio.h>\n'
-               'static void show(size_t s, size_t m, size_t r, size_t c, size_t d) '
-               '{ printf("%zu %zu %zu %zu %zu\\n", s, m, r, c, d); }\n'
+               'static void show(size_t s, size_t m, size_t r, size_t c, size_t d, size_t l, '
+               'size_t p, size_t q) '
+               '{ printf("%zu %zu %zu %zu %zu %zu %zu %zu\\n", s, m, r, c, d, l, p, q); }\n'
                f'int main(void) {{\n{rows}}}\n')
     with tempfile.TemporaryDirectory() as folder:
         source, compiled = pathlib.Path(folder, 'lengths.c'), pathlib.Path(folder, 'lengths')
@@ -88,7 +97,8 @@ def worked_out(sizes):
         subprocess.run(['cc', '-std=c99', f'-I{ROOT / "include"}', source, '-o', compiled],
                        check=True)
         lines = subprocess.run([compiled], check=True, capture_output=True, text=True).stdout
-    return [dict(zip(PARTS, map(int, line.split()), strict=True)) for line in lines.splitlines()]
+    names = *PARTS, 'draft', 'row', 'draft_row'
+    return [dict(zip(names, map(int, line.split()), strict=True)) for line in lines.splitlines()]
 
 
 def main():
@@ -108,11 +118,14 @@ def main():
     defined = definitions()
     for (duration, M, C, T), lengths in zip(sizes, worked_out(sizes), strict=True):
         given = {'M': M, 'C': C, 'T': T, 'P': 1440 // duration}
+        # A draft holds one date. The cell of period 1 is entry d C P + c P.
+        P, d, c = given['P'], T - 1, C - 1
+        due = {'draft': C * P, 'row': d * C * P + c * P, 'draft_row': c * P}
         for part, (names, formula) in defined.items():
-            assert eval(formula, {name: given[name] for name in names}) == lengths.pop(part)
-        assert not lengths
-    print(f'header: {len(declared())} functions, {len(numbers())} numbers and the least lengths '
-          f'for {len(sizes)} sizes agree')
+            due[part] = eval(formula, {name: given[name] for name in names})
+        assert lengths == due, (given, lengths, due)
+    print(f'header: {len(declared())} functions, {len(numbers())} numbers, and the least lengths '
+          f'and rows for {len(sizes)} sizes agree')
 
 
 if __name__ == '__main__':

@@ -5,11 +5,13 @@ first entry and a page behind its last that nobody may touch: an access past its
 end ends the process, and a write before it is found.
 
 On a store that the calls made, every answer must be the ledger's. On any other,
-receptions, totals, cells, nets, bands and coverage must be answered as the parts lent
-for them say. Of the other calls only what holds of every store is tested: the refusals
-for lengths and for arguments out of range, what else a call may answer, and what it
-must leave alone. The moved count of a run and the days that it leaves are worked out on
-every store, from what there was before it and the cells before and after it.
+receptions, totals, cells, rows, nets, bands and coverage must be answered as the arrays
+lent for them say. Of the other calls only what holds of every store is tested: the
+refusals for lengths and for arguments out of range, what else a call may answer, and what
+it must leave alone. The moved count of a run and the days that it leaves are worked out on
+every store, from what there was before it and the cells before and after it. A preview is
+compared on every store with a run of the compiled library on a copy, and a row is read
+entry by entry.
 """
 
 import ctypes
@@ -23,12 +25,13 @@ from ledger import (BLANK, DAY, EXPORT, IMPORT, SMART, WINDOWS, Category, Cell, 
                     Registration, mpan_good, no, opening, rounded, window_periods)
 
 FIELDS = 11                                # entries that `fields` has at least
+ENDINGS = {'fields': FIELDS, 'number': 1}  # what a call has last, with its entries
 HEADER = '>4H'                             # of the settings: duration, meters, categories, dates
 
 # Each array that a call may be lent, with the struct letter of its entries.
 ARRAYS = {'settings': 'B', 'meters': 'Q', 'readings': 'Q', 'cells': 'Q', 'days': 'Q',
-          'category_records': 'B', 'day_types': 'B', 'body': 'B', 'missing': 'B',
-          'numbers': 'q', 'marks': 'B', 'dates': 'Q', 'filled': 'Q', 'fields': 'q'}
+          'draft': 'Q', 'category_records': 'B', 'day_types': 'B', 'body': 'B', 'missing': 'B',
+          'numbers': 'q', 'marks': 'B', 'dates': 'Q', 'filled': 'Q', 'fields': 'q', 'number': 'Q'}
 WIDTHS = {name: struct.calcsize(letter) for name, letter in ARRAYS.items()}
 PARTS = ('settings', 'meters', 'readings', 'cells', 'days')
 ROWS = 4                                   # of a category in days: day, sums, TOT and OFF
@@ -39,13 +42,16 @@ BITS = {'sender': 16, 'limit': 32, 'advance': 32}      # of a number; all others
 
 
 class Call(NamedTuple):
-    """A function of the header. Its parameters are parts, arguments, lists and `fields`."""
+    """A function of the header. Its parameters are parts, arguments, lists and `fields`.
+
+    One has a lent number, one entry without a count, in place of `fields`.
+    """
     function: str
     parts: list                            # lent
-    written: list                          # the parts among them that it writes
+    written: list                          # the parts among them that it writes, and the draft
     arguments: list                        # numbers and lists, in the ledger's order too
     lists: list                            # lent for results
-    results: int                           # how many stand in `fields`
+    results: int                           # how many stand in `fields`; None where it has none
     checks: tuple                          # their numbers, in their order
     parameters: list
 
@@ -54,7 +60,7 @@ def call(function, parts, written, arguments, lists, results, *checks):
     parts, written, arguments, lists = (
         names.split() for names in (parts, written, arguments, lists))
     return Call(function, parts, written, arguments, lists, results, checks,
-                [*parts, *arguments, *lists, 'fields'])
+                [*parts, *arguments, *lists, 'number' if results is None else 'fields'])
 
 
 # By the names of the ledger's calls. A further one is a line here, and in calls.py a turn and the
@@ -71,10 +77,15 @@ CALLS = {
                       1, 9, 6, 7, 2, 1001, 1002, 1004, 13, 1005, 1006, 1008, 1009, 1011, 1012),
     'run': call('jihoweka_run', 'settings meters readings cells days', 'cells days', 'date', '',
                 1, 1, 9),
+    'preview': call('jihoweka_preview', 'settings meters readings cells days', 'draft',
+                    'draft date', '', 1, 1, 18, 9),
     'totals': call('jihoweka_read_totals', 'settings days', '', 'date category', '', 11,
                    1, 9, 15, 14),
     'cell': call('jihoweka_read_cell', 'settings cells', '', 'date category period', '', 5,
                  1, 9, 15, 14),
+    'row': call('jihoweka_read_row', 'settings cells', '', 'draft date category from_draft', '',
+                None, 1, 18, 9, 15, 14),
+    'entry': call('jihoweka_read_entry', '', '', 'entry', '', 5),
     'net': call('jihoweka_read_net', 'settings cells days', '', 'date category all_groups',
                 'numbers marks', 2, 1, 9, 15, 26, 14),
     'band': call('jihoweka_search_band', 'settings days', '', 'category day_type least most',
@@ -87,14 +98,16 @@ CALLS = {
     'coverage': call('jihoweka_read_coverage', 'settings days', '', 'date category', '', 5,
                      1, 9, 15, 14),
 }
-FOR_ARGUMENTS = (1, 9, 6, 16, 15)          # checks that any store answers alike
+FOR_ARGUMENTS = (1, 18, 9, 6, 16, 15)      # checks that any store answers alike
 OF_RECORDS = (1005, 1006, 1008, 1009, 1011, 1012)      # with a place always, 13 with one or none
 
 
 def to_be_reached():
     """(call, number) of all that must have been heard; what has two forms, in both."""
-    keys = [(name, number) for name, made in CALLS.items() for number in (0, *made.checks)]
+    keys = [(name, number) for name, made in CALLS.items()
+            for number in dict.fromkeys((0, 1, *made.checks))]         # too few fields are 1
     keys += [('net of all groups', number) for number in (0, *CALLS['net'].checks)]
+    keys += [('row of the draft', number) for number in (0, *CALLS['row'].checks) if number != 14]
     return [*keys, ('reception of a bad record', 13)]
 
 
@@ -105,7 +118,7 @@ def described(name, given):
         value = given[parameter]
         if parameter not in ARRAYS:
             shown.append(f'{parameter} {value}')
-        elif parameter in CALLS[name].arguments:
+        elif parameter in CALLS[name].arguments and parameter != 'draft':
             shown.append(f'{parameter} {value.hex() or "empty"}')
         else:
             shown.append(f'{parameter}[{len(value) // WIDTHS[parameter]}]')
@@ -159,7 +172,9 @@ class Library:
         for name, made in CALLS.items():
             types = []
             for parameter in made.parameters:
-                if parameter in ARRAYS:
+                if parameter == 'number':
+                    types += [ctypes.c_void_p]
+                elif parameter in ARRAYS:
                     types += [ctypes.c_void_p, ctypes.c_size_t]
                 else:
                     types += [getattr(ctypes, f'c_uint{BITS.get(parameter, 64)}')]
@@ -167,16 +182,28 @@ class Library:
             function.restype, function.argtypes = ctypes.c_uint64, types
 
     def call(self, name, given, null):
-        """The number returned, and what each array holds that was lent."""
+        """What is returned, and what each array holds that was lent."""
         passed, lent = [], []
         for parameter in CALLS[name].parameters:
             if parameter in ARRAYS:
                 lent.append(self.memory[parameter])
-                passed += lent[-1].lend(given[parameter], null)
+                pointer, count = lent[-1].lend(given[parameter], null)
+                passed += [pointer] if parameter == 'number' else [pointer, count]
             else:
                 passed.append(given[parameter])
-        number = self.functions[name](*passed)
-        return number, {memory.name: memory.taken_back() for memory in lent}
+        returned = self.functions[name](*passed)
+        return returned, {memory.name: memory.taken_back() for memory in lent}
+
+    def cells_of(self, entries):
+        """The cells that the library reads these entries as, any 64-bit numbers."""
+        fields, cells = bytes(WIDTHS['fields'] * FIELDS), {}
+        for entry in set(entries):
+            number, after = self.call('entry', {'entry': entry, 'fields': fields}, False)
+            flag, *rest = struct.unpack_from('5q', after['fields'])
+            if number or flag not in b'ADEN':
+                raise Difference(f'entry {entry} is read as {number, flag, *rest}')
+            cells[entry] = Cell(chr(flag), *rest)
+        return [cells[entry] for entry in entries]
 
 
 class Sizes(NamedTuple):
@@ -197,6 +224,11 @@ class Sizes(NamedTuple):
                 'readings': self.dates * self.meters * (1 + self.periods),
                 'cells': self.dates * self.categories * self.periods,
                 'days': ROWS * self.categories * self.dates}
+
+    @property
+    def row(self):
+        """The cells of a date, and the least length of a draft."""
+        return self.categories * self.periods
 
 
 def sizes_of(ledger):
@@ -220,6 +252,12 @@ def short(given, sizes):
     return any(len(given[array]) < WIDTHS[array] * least[array] for array in least.keys() & given)
 
 
+def as_fields(cell):
+    """A cell as fields have it, its flag as a number."""
+    flag, *rest = cell
+    return ord(flag), *rest
+
+
 def cell_of(entry):
     """The cell that an entry reads as, whatever made it; flag 0 has no fields but the value."""
     flag, value = 'NADE'[entry % 4], entry >> 32
@@ -227,6 +265,20 @@ def cell_of(entry):
         return BLANK._replace(value=value)
     count, origin, remainder = (entry >> shift & 1023 for shift in (2, 12, 22))
     return Cell(flag, value, count + 1, origin, remainder - 512)
+
+
+def entry_of(cell):
+    """The entry that a run makes of a cell."""
+    if cell.flag == 'N':
+        return BLANK_ENTRY
+    return ('NADE'.index(cell.flag) + (cell.count - 1 << 2) + (cell.origin << 12)
+            + (cell.remainder + 512 << 22) + (cell.value << 32))
+
+
+def entries_of(contents, first=0, length=None):
+    """The numbers in these bytes, or so many of them from one of them on."""
+    last = None if length is None else 8 * (first + length)
+    return [entry for entry, in struct.iter_unpack('Q', contents[8 * first:last])]
 
 
 def day_of(cells):
@@ -249,13 +301,17 @@ def summed(row, date, length):
 
 
 class Store:
-    """The parts, and the ledger for as long as the calls made what the parts hold."""
+    """The parts, and the ledger for as long as the calls made what the parts hold.
+
+    Beside them a draft, and the cells that are in it if previews did what they must.
+    """
 
     def __init__(self, library, reached):
         self.library, self.reached = library, reached
         self.parts = dict.fromkeys(PARTS, b'')
         self.ledger = None
         self.sizes = None                  # None while unopened
+        self.draft, self.drafted = b'', []
 
     def replace(self, parts):
         """Parts that the calls did not make, at least not alone."""
@@ -263,28 +319,55 @@ class Store:
 
     def call(self, name, given, null):
         """Makes the call, tests all that comes of it, and gives the answer."""
-        expected = self.expected(name, given)
-        number, after = self.library.call(name, given, null)
-        came = self.heard(name, number, after)
+        told = dict(given)
+        if 'draft' in given:
+            told['draft'] = self.draft_told(given['draft'])
+        expected = self.expected(name, told)
+        returned, after = self.library.call(name, given, null)
+        came = self.heard(name, returned, given, after)
         if expected is None:
             self.test_possible(name, given, came)
         elif came != expected:
             raise Difference(f'expected {expected}\ncame     {came}')
         self.test_unchanged(name, given, after, came)
-        if number == 0 and name == 'run':
+        accepted = came[0] == 'ok'
+        if accepted and name == 'run':
             self.test_moved(given, after, came)
             self.test_days(given, after)
-        if number == 0:
+        if name == 'preview':
+            self.test_as_run(given, after, came)
+        if accepted and name == 'preview':
+            if expected is None:           # of such a store the ledger knows nothing
+                told['draft'] = list(map(cell_of, entries_of(after['draft'])))
+            else:
+                self.test_draft(after, told['draft'])
+            self.draft, self.drafted = after['draft'], told['draft']
+        if accepted:
             self.parts.update((part, after[part]) for part in CALLS[name].parts)
         self.count(name, given, came, expected)
         return came
 
+    def draft_told(self, contents):
+        """The cells of a draft that is lent, as the ledger is told of them.
+
+        Of the draft that stands, cut or with more behind it, they are those that the ledger has;
+        of any other they are what its entries read as.
+        """
+        common = min(len(contents), len(self.draft))
+        known = self.drafted[:common // 8] if contents[:common] == self.draft[:common] else []
+        return known + list(map(cell_of, entries_of(contents, len(known))))
+
     def expected(self, name, given):
-        """The answer that must come; None if it hangs on what the ledger does not know."""
+        """The answer that must come; None if it hangs on what the ledger does not know.
+
+        An accepted preview changes the draft that is given, which has the ledger's cells.
+        """
         made = CALLS[name]
-        if len(given['fields']) < WIDTHS['fields'] * FIELDS:
+        if len(given.get('fields', b'')) < WIDTHS['fields'] * FIELDS and made.results is not None:
             return no(1)
         arguments = [given[argument] for argument in made.arguments]
+        if name == 'entry':
+            return 'ok', *as_fields(cell_of(*arguments))
         if name == 'opening':              # it does not matter what the parts hold
             ledger = opening(*arguments)
             if not isinstance(ledger, Ledger):
@@ -300,12 +383,14 @@ class Store:
         lengths = [len(given[each]) // WIDTHS[each] for each in made.lists]
         answer = getattr(self.ledger, name)(*arguments, *lengths)
         if name == 'cell' and answer[0] == 'ok':
-            return 'ok', ord(answer[1]), *answer[2:]
+            return 'ok', *as_fields(answer[1:])
         return answer
 
     def refused_for_arguments(self, name, given):
         """The refusal that comes of the arguments and the kept settings alone, or None."""
         sizes, date, category = self.sizes, given.get('date', 0), given.get('category', 0)
+        if 'draft' in given and len(given['draft']) < sizes.row:
+            return no(18)
         if date >= sizes.dates:
             return no(9)
         if 'mpan' in given and not mpan_good(given['mpan']):
@@ -400,8 +485,21 @@ class Store:
         cells = self.cells_kept(given)
         if cells is None:
             return no(14)
-        flag, *rest = cells[self.sizes.periods * given['category'] + given['period'] - 1]
-        return 'ok', ord(flag), *rest
+        cell = cells[self.sizes.periods * given['category'] + given['period'] - 1]
+        return 'ok', *as_fields(cell)
+
+    def row_kept(self, given):
+        """The stretch of the array that is asked for."""
+        if not given['from_draft'] and self.cells_kept(given) is None:
+            return no(14)
+        return 'ok', list(map(cell_of, self.row_entries(given, self.sizes.periods)))
+
+    def row_entries(self, given, length):
+        """So many entries from where a row begins."""
+        array, first = 'cells', given['date'] * self.sizes.row
+        if given['from_draft']:
+            array, first = 'draft', 0
+        return entries_of(given[array], first + given['category'] * self.sizes.periods, length)
 
     def net_kept(self, given):
         """The date's periods from the cells, the week from the days."""
@@ -433,9 +531,11 @@ class Store:
         written = dates[:len(given['dates']) // WIDTHS['dates']]
         return 'ok', len(written), len(dates), written
 
-    def heard(self, name, number, after):
+    def heard(self, name, number, given, after):
         """What came, in the form of the ledger's answers."""
         made = CALLS[name]
+        if name == 'row':
+            return self.heard_row(number, given, after)
         fields = [field for field, in struct.iter_unpack(ARRAYS['fields'], after['fields'])]
         if number:
             return no(number, fields[0] if len(fields) >= FIELDS else 0)
@@ -447,9 +547,18 @@ class Store:
             answer = *answer, [entry for entry, in struct.iter_unpack(ARRAYS[each], contents)]
         return answer
 
+    def heard_row(self, length, given, after):
+        """The cells of the row; a refused one that is not empty has its length for the place."""
+        number, = entries_of(after['number'])
+        if number:
+            return no(number, length)
+        if self.sizes is None or length != self.sizes.periods:
+            raise Difference(f'came a row of {length} entries')
+        return 'ok', self.library.cells_of(self.row_entries(given, length))
+
     def test_possible(self, name, given, came):
         """What holds of all other answers on any store."""
-        if name in ('reception', 'totals', 'cell', 'net', 'band', 'coverage'):
+        if name in ('reception', 'totals', 'cell', 'row', 'net', 'band', 'coverage'):
             due = getattr(self, f'{name}_kept')(given)
             if came != due:
                 raise Difference(f'the parts say {due}\ncame          {came}')
@@ -469,9 +578,11 @@ class Store:
     def test_unchanged(self, name, given, after, came):
         """Whether all that the call had no business to write is as it was."""
         made, fronts = CALLS[name], {}     # array -> entries at its front that may be written
-        if came[0] == 'ok':
-            least = self.sizes.least()
-            fronts = {part: least[part] for part in made.written}
+        if name == 'row':
+            fronts['number'] = 1
+        elif came[0] == 'ok':
+            least = {**self.sizes.least(), 'draft': self.sizes.row} if made.written else {}
+            fronts = {array: least[array] for array in made.written}
             fronts.update(zip(made.lists, map(len, came[1 + made.results:])))
             fronts['fields'] = made.results
         elif len(given['fields']) >= WIDTHS['fields'] * FIELDS:
@@ -499,6 +610,27 @@ class Store:
         moved = sum(map(ne, old, new))
         if came != ('ok', moved):
             raise Difference(f'{moved} entries changed, and {came} came')
+
+    def test_as_run(self, given, after, came):
+        """Whether a run on a copy answers the same, and leaves the draft's cells on the date."""
+        returned, copy = self.library.call('run', given, False)
+        run = self.heard('run', returned, given, copy)
+        if came != run and came != no(18):
+            raise Difference(f'came {came}, of a run {run}')
+        if came[0] == 'ok':
+            row = self.sizes.row
+            drafted = entries_of(after['draft'], 0, row)
+            self.test_entries(drafted, entries_of(copy['cells'], given['date'] * row, row))
+
+    def test_draft(self, after, draft):
+        """Whether the draft has the ledger's cells, in the entries that a run makes of them."""
+        row = self.sizes.row
+        self.test_entries(entries_of(after['draft'], 0, row), list(map(entry_of, draft[:row])))
+
+    def test_entries(self, drafted, due):
+        if drafted != due:
+            at = next(at for at, pair in enumerate(zip(drafted, due)) if pair[0] != pair[1])
+            raise Difference(f'entry {at} of the draft is {drafted[at]} where {due[at]} is due')
 
     def rows_kept(self, given, after):
         """Date and new row of all whose days a run puts, as the cells show them.
@@ -547,6 +679,8 @@ class Store:
             return                         # only what the ledger said shows that it was tested
         if name == 'net' and given['all_groups']:
             name = 'net of all groups'
+        if name == 'row' and given['from_draft']:
+            name = 'row of the draft'
         if number == 13 and place:
             name = 'reception of a bad record'
         self.reached[name, number] += 1
@@ -560,7 +694,8 @@ def make(store, due, name, *arguments, length=0, **lent):
     given = {part: store.parts[part] for part in CALLS[name].parts}
     given.update(zip(CALLS[name].arguments, arguments, strict=True))
     given.update((each, b'\xa5' * (WIDTHS[each] * length)) for each in CALLS[name].lists)
-    given['fields'] = b'\xa5' * (WIDTHS['fields'] * FIELDS)
+    ending = CALLS[name].parameters[-1]
+    given[ending] = b'\xa5' * (WIDTHS[ending] * ENDINGS[ending])
     given.update(lent)
     try:
         came = store.call(name, given, null=False)

@@ -18,6 +18,12 @@ from streams import TOP
 
 HERE, THERE, ADVANCED = (1, 1, 1, 1, 1, 0), (1, 2, 1, 1, 1, 0), (2, 0, 0, 1, 1, 0)
 BLANK = 'N', 0, 0, 65535, 0
+# Entries that no run made, and the cells that they read as.
+WORDS = {2 ** 31: BLANK, LARGEST: ('E', TOP, 1024, 1023, 511), 1: ('A', 0, 1, 0, -512),
+         2: ('D', 0, 1, 0, -512), 3 + 4 * 1023: ('E', 0, 1024, 0, -512),
+         LARGEST - 3: ('N', TOP, 0, 65535, 0), 4: BLANK, 2 ** 32: ('N', 1, 0, 65535, 0),
+         2 + 4096 * 1023: ('D', 0, 1, 1023, -512), 1 + 2 ** 31: ('A', 0, 1, 0, 0),
+         1 + 2 ** 22: ('A', 0, 1, 0, -511), 0: BLANK}
 
 
 class Crowd(Case):
@@ -113,16 +119,11 @@ def last_date(store):
 def foreign(store):
     """Entries that no run made read as cells, whatever their bits."""
     made = store(1, 1, HERE)
-    words = {2 ** 31: BLANK, LARGEST: ('E', TOP, 1024, 1023, 511), 1: ('A', 0, 1, 0, -512),
-             2: ('D', 0, 1, 0, -512), 3 + 4 * 1023: ('E', 0, 1024, 0, -512),
-             LARGEST - 3: ('N', TOP, 0, 65535, 0), 4: BLANK, 2 ** 32: ('N', 1, 0, 65535, 0),
-             2 + 4096 * 1023: ('D', 0, 1, 1023, -512), 1 + 2 ** 31: ('A', 0, 1, 0, 0),
-             1 + 2 ** 22: ('A', 0, 1, 0, -511), 0: BLANK}
-    row = list(words)
+    row = list(WORDS)
     past = made.store.parts['cells'][-PAST * WIDTHS['cells']:]
     row += [1] * (48 - len(row))
     made.store.replace({**made.store.parts, 'cells': struct.pack('48Q', *row) + past})
-    made.cells(*(((0, 0, period), cell) for period, cell in enumerate(words.values(), 1)))
+    made.cells(*(((0, 0, period), cell) for period, cell in enumerate(WORDS.values(), 1)))
     made.cut('cell', 0, 0, 1)
     # A first entry of 0 says that the date is not run; the rest does not matter.
     made.store.replace({**made.store.parts, 'cells': struct.pack('48Q', 0, *row[1:]) + past})

@@ -7,9 +7,10 @@ calculation: each cell straight from the list of accepted calls by the rules in
 the order the paper gives them, senders by who has taken over by noon, moved by
 comparing every cell of every date, totals by minutes and fractions, nets by adding
 each cell with its sign, bands by adding each date's cells, fills by whole numbers,
-one Wh after the other, coverage by the age of each cell's date. Then known slips:
-the ledger's text is changed in one place, and some stream, or for nets, bands, fills,
-coverage and totals after reruns some random store, must hear the difference.
+one Wh after the other, coverage by the age of each cell's date, previews from the list
+of calls with the run behind it. Then known slips: the ledger's text is changed in one
+place, and some stream, or for nets, bands, fills, coverage, totals after reruns, previews
+and rows some random store, must hear the difference.
 """
 
 import random
@@ -111,6 +112,31 @@ class Doubled(ledger.Ledger):
             self.calls.append(('run', date))
             after = self.all_cells(len(self.calls))
             assert answer[1] == sum(before[key] != after[key] for key in after)
+            Doubled.checked += 1
+        return answer
+
+    def preview(self, draft, date):
+        due = draft[:]
+        answer = super().preview(draft, date)
+        if answer[0] == 'ok':
+            then = doubled(self)           # with the calls of this one, and the run
+            then.calls = [*self.calls, ('run', date)]
+            before, after = (each.all_cells(len(each.calls)) for each in (self, then))
+            assert answer[1] == sum(before[key] != after[key] for key in after)
+            for (d, number, period), cell in after.items():
+                if d == date:
+                    due[self.periods * number + period - 1] = cell
+            Doubled.checked += 1
+        assert draft == due
+        return answer
+
+    def row(self, draft, date, category, from_draft):
+        answer = super().row(draft, date, category, from_draft)
+        if answer[0] == 'ok':
+            cells = self.all_cells(len(self.calls))
+            assert answer[1] == [draft[self.periods * category + period - 1] if from_draft
+                                 else cells[date, category, period]
+                                 for period in range(1, self.periods + 1)]
             Doubled.checked += 1
         return answer
 
@@ -376,11 +402,35 @@ def totals_answers(opening, seed):
     return reread('totals', opening, seed)
 
 
+def preview_answers(opening, seed):
+    """Previews of a random store after new sets, with rows, cells and runs between them."""
+    rng = random.Random(seed)
+    store = small_store(opening, rng)
+    length = 48 * len(store.categories)
+    answers, draft = [], [('any', number) for number in range(length + rng.randrange(3))]
+    for _ in range(8):
+        date = rng.randrange(store.dates)
+        receive_some(store, rng, rng.randrange(6), date)
+        # Of the date with new sets, of another one, or of that past the last.
+        date = rng.choice((date, date, date, rng.randrange(store.dates + 1)))
+        answers += [store.preview(draft, date), draft[:],
+                    store.preview(draft[:rng.choice((0, length - 1, length))], rng.choice((0, 9)))]
+        for _ in range(12):
+            place = rng.randrange(store.dates + 1), rng.randrange(len(store.categories) + 1)
+            lent = draft if rng.random() < 0.9 else draft[:rng.choice((0, length - 1, length))]
+            answers += [store.row(lent, *place, rng.choice((0, 0, 0, 1, 2, 2 ** 32))),
+                        store.cell(*place, rng.choice((1, 2, 3, 47, 48)))]
+        if rng.random() < 0.5:
+            answers.append(store.run(rng.choice((date, rng.randrange(store.dates)))))
+    return answers
+
+
 def check_twice(streams, commands, stores):
     for seed in range(streams):
         list(Doubling(stream(seed, 'small', commands), program.PROFILES['small']).answers())
     for seed in range(stores):
-        for answers in net_answers, band_answers, fill_answers, coverage_answers, totals_answers:
+        for answers in (net_answers, band_answers, fill_answers, coverage_answers, totals_answers,
+                        preview_answers):
             answers(lambda *given: doubled(ledger.opening(*given)), seed)
     return Doubled.checked
 
@@ -759,6 +809,96 @@ TOTALS_SLIPS = [
      '        window = '),
 ]
 
+# And for previews and rows.
+PREVIEW_SLIPS = [
+    ('runs the date', 'other = self.copy()', 'other = self'),
+    ('previews what is published', 'for row in other.cells[date] for cell in row]',
+     'for row in self.cells.get(date, other.cells[date]) for cell in row]'),
+    ('leaves the new sets out', 'answer = other.run(date)\n',
+     'other.held = {m: {d: r for d, r in s.items() if d != date or d not in self.pictures}\n'
+     '                      for m, s in self.held.items()}\n'
+     '        answer = other.run(date)\n'),
+    ("counts its own date's cells only", 'draft[:length] = [cell for',
+     'blank = [[BLANK] * self.periods] * len(self.categories)\n'
+     '        answer = "ok", sum(sum(map(ne, *rows)) for rows in zip(\n'
+     '            self.cells.get(date, blank), other.cells[date]))\n'
+     '        draft[:length] = [cell for'),
+    ('counts the later dates only', 'draft[:length] = [cell for',
+     'blank = [[BLANK] * self.periods] * len(self.categories)\n'
+     '        answer = "ok", answer[1] - sum(sum(map(ne, *rows)) for rows in zip(\n'
+     '            self.cells.get(date, blank), other.cells[date]))\n'
+     '        draft[:length] = [cell for'),
+    ('counts what differs from the draft', 'draft[:length] = [cell for',
+     'answer = "ok", sum(map(ne, draft, [c for row in other.cells[date] for c in row]))\n'
+     '        draft[:length] = [cell for'),
+    ('counts all cells of a date not run', 'draft[:length] = [cell for',
+     'if date not in self.pictures: answer = "ok", max(answer[1], length)\n'
+     '        draft[:length] = [cell for'),
+    ('writes the periods one after the other',
+     '[cell for row in other.cells[date] for cell in row]',
+     '[cell for column in zip(*other.cells[date]) for cell in column]'),
+    ('writes the cells of the last run date', 'for row in other.cells[date] for cell in row]',
+     'for row in other.cells[max(other.cells)] for cell in row]'),
+    ('writes fresh cells only',
+     'draft[:length] = [cell for row in other.cells[date] for cell in row]',
+     'draft[:length] = [cell if cell.flag in "AD" else old for old, cell in\n'
+     '                          zip(draft, [c for row in other.cells[date] for c in row])]'),
+    ('writes the changed cells only',
+     'draft[:length] = [cell for row in other.cells[date] for cell in row]',
+     'draft[:length] = [old if date in self.cells and cell == self.cells[date][at // 48][at % 48]\n'
+     '                          else cell for at, (old, cell) in enumerate(\n'
+     '                              zip(draft, [c for row in other.cells[date] for c in row]))]'),
+    ('empties the rest of the draft', 'draft[:length] = [cell for', 'draft[:] = [cell for'),
+    ('wants a longer draft', 'if len(draft) < length:', 'if len(draft) <= length:'),
+    ('finds a date past the last before a short draft',
+     'if len(draft) < length:\n            return no(18)\n'
+     '        if date >= self.dates:\n            return no(9)\n',
+     'if date >= self.dates:\n            return no(9)\n'
+     '        if len(draft) < length:\n            return no(18)\n'),
+    ('says 1 of a short draft', 'if len(draft) < length:\n            return no(18)',
+     'if len(draft) < length:\n            return no(1)'),
+    ('turns the switch', 'if from_draft: ', 'if not from_draft: '),
+    ('takes no switch but 1 for the draft', 'if from_draft: ', 'if from_draft == 1: '),
+    ('takes the published row for the draft', "'ok', draft[category * self.periods:(category",
+     "'ok', self.cells[date][category] if date in self.cells else draft[\n"
+     "                category * self.periods:(category"),
+    ("takes the first category's row of the draft",
+     'draft[category * self.periods:(category + 1) * self.periods]', 'draft[:self.periods]'),
+    ('takes the rest of the draft', 'draft[category * self.periods:(category + 1) * self.periods]',
+     'draft[category * self.periods:]'),
+    ('finds fault with a date not run in the draft too', 'if from_draft: ',
+     'if date not in self.pictures:\n            return no(14)\n        if from_draft: '),
+    ('finds no fault with a date not run', 'if date not in self.pictures:\n'
+     "            return no(14)\n        return 'ok', self.cells[date][category]\n",
+     'if date not in self.pictures:\n            return "ok", [BLANK] * self.periods\n'
+     "        return 'ok', self.cells[date][category]\n"),
+    ('finds no fault with a date past the last in the draft',
+     'if date >= self.dates:\n            return no(9)\n        if category >= '
+     'len(self.categories):\n            return no(15)\n        if from_draft',
+     'if date >= self.dates and not from_draft:\n            return no(9)\n        if category >= '
+     'len(self.categories):\n            return no(15)\n        if from_draft'),
+    ('finds no fault with an absent category in the draft',
+     'if category >= len(self.categories):\n            return no(15)\n        if from_draft',
+     'if category >= len(self.categories) and not from_draft:\n            return no(15)\n'
+     '        if from_draft'),
+    ('finds no fault with a short draft that is not asked for',
+     'if len(draft) < len(self.categories) * self.periods:',
+     'if from_draft and len(draft) < len(self.categories) * self.periods:'),
+    ('finds no fault with a draft as long as it reads',
+     'if len(draft) < len(self.categories) * self.periods:',
+     'if len(draft) < (min(category, len(self.categories) - 1) + 1) * self.periods:'),
+    ('finds a date past the last before a short draft of a row',
+     'if len(draft) < len(self.categories) * self.periods:\n            return no(18)\n'
+     '        if date >= self.dates:\n            return no(9)\n',
+     'if date >= self.dates:\n            return no(9)\n'
+     '        if len(draft) < len(self.categories) * self.periods:\n            return no(18)\n'),
+    ('finds a date not run before a category that is absent',
+     'if category >= len(self.categories):\n            return no(15)\n        if from_draft',
+     'if not from_draft and date not in self.pictures:\n            return no(14)\n'
+     '        if category >= len(self.categories):\n            return no(15)\n'
+     '        if from_draft'),
+]
+
 
 def changed_program(old, new):
     """The command program on the ledger with one place of its text changed."""
@@ -810,7 +950,9 @@ def main():
              and heard_each(COVERAGE_SLIPS, 'store',
                             lambda program, seed: coverage_answers(program.opening, seed))
              and heard_each(TOTALS_SLIPS, 'store',
-                            lambda program, seed: totals_answers(program.opening, seed)))
+                            lambda program, seed: totals_answers(program.opening, seed))
+             and heard_each(PREVIEW_SLIPS, 'store',
+                            lambda program, seed: preview_answers(program.opening, seed)))
     return 0 if heard else 1
 
 

@@ -1,5 +1,5 @@
-"""The paper's worked example, its marked list, a net, bands, coverage and remainders worked by
-hand, on the plain ledger.
+"""The paper's worked example, its marked list, a net, bands, coverage, remainders and a preview
+worked by hand, on the plain ledger.
 
     python3 worked_example.py
 """
@@ -183,6 +183,33 @@ def what_rounding_dropped():
     assert ledger.cell(0, 0, 2) == ('ok', 'N', 0, 0, 65535, 0)
 
 
+def before_publishing():
+    """A rerun of date 0 is looked at before it is done: 6 and 9 Wh in place of 5."""
+    ledger = store((1, 1, 1, 1, 1, 0, 0, 1), (2, 0, 0, 1, 1, 0, 0, 1), dates=3, meters=1)
+    assert ledger.registration(1000000000003, 0, 0, 0, 7, 1, 10000) == ('ok',)
+
+    def receive(*values):
+        body = b''.join(reading(30 * period, wh) for period, wh in enumerate(values, 1))
+        assert ledger.reception(7, 1000000000003, 0, 30, 1, body) == ('ok',)
+
+    receive(5)
+    assert [ledger.run(0), ledger.run(1)] == [('ok', 1), ('ok', 1)]
+    receive(6, 9)
+    blank, past = ('N', 0, 0, 65535, 0), ['past', 'the', 'cells']
+    draft = ['any'] * 96 + past
+    assert ledger.preview(draft, 0) == ('ok', 4)
+    new = [('A', 6, 1, 0, 0), ('A', 9, 1, 0, 0)] + 46 * [blank]
+    assert draft == new + 48 * [blank] + past
+    assert ledger.cell(0, 0, 1) == ('ok', 'A', 5, 1, 0, 0)
+    assert ledger.cell(1, 0, 1) == ('ok', 'E', 5, 1, 0, 0)
+    assert ledger.row(draft, 0, 0, 1) == ledger.row(draft, 2, 0, 1) == ('ok', new)
+    assert ledger.row(draft, 0, 0, 0) == ('ok', [('A', 5, 1, 0, 0)] + 47 * [blank])
+    assert ledger.row(draft, 2, 0, 0) == ('no', 14, 0)
+    assert ledger.row(draft, 3, 0, 0) == ledger.row(draft, 3, 0, 1) == ('no', 9, 0)
+    assert ledger.preview(draft[:95], 3) == ledger.row(draft[:95], 3, 2, 1) == ('no', 18, 0)
+    assert ledger.run(0) == ('ok', 4) and ledger.row(draft, 0, 0, 0) == ('ok', new)
+
+
 if __name__ == '__main__':
     assert run(INPUT) == OUTPUT
     marked_list()
@@ -190,4 +217,5 @@ if __name__ == '__main__':
     days_like_the_coming_one()
     real_part_of_a_week()
     what_rounding_dropped()
-    print('worked example, marked list, net, bands, coverage and remainders agree')
+    before_publishing()
+    print('worked example, marked list, net, bands, coverage, remainders and preview agree')

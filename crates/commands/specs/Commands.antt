@@ -12,9 +12,10 @@ use Rattle.input.specs.Operands.{operand, openingOperands, registrationOperands
 use Rattle.output.specs.Lines.{answerLine}
 use Rattle.commands.specs.declared.capacity.Capacity.{Capacity}
 
+-- the program lends no draft
 abbrev pub partsOf : List ℕ → List ℕ → List ℕ → List ℕ → List ℕ → Parts
 partsOf settings meters readings cells days =
-    record { settings = settings; meters = meters; readings = readings; cells = cells; days = days }
+    record { settings = settings; meters = meters; readings = readings; cells = cells; days = days; draft = [] }
 
 -- the program between two commands: the 11s and 12s collected for the next opening, and the store
 pub record State : Type 0 where

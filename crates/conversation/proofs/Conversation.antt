@@ -1,8 +1,8 @@
 -- The command program prints what the plain ledger says, for every input.
 use Prim.Native.Nat.{ℕ, zero, suc, _+_, _*_, _/_, _≤_, min}
-use mathlib.Core.Path.{_≡_, refl, sym, ap, _∙_}
+use mathlib.Core.Path.{_≡_, refl, sym, ap, _∙_, subst}
 use mathlib.Core.Bool.{Bool, true, false, cond}
-use mathlib.Core.List.{List, [], _++_, append-nil}
+use mathlib.Core.List.{List, [], _∷_, _++_, append-nil}
 use mathlib.Core.Option.{Option, none, some}
 use native.Mathlib.Omega.{arith}
 use native.Mathlib.Nat.{not-suc-le-zero}
@@ -12,15 +12,16 @@ use lib.Seq.{take-length, drop-length}
 use borrow.Table.Steps.{cases}
 use borrow.Author.Tests.{lt-ltb, eqb-true, eqb-false, ne-eqb}
 use Rattle.ledger.specs.Sizes.{headerLength, settingsLength}
-use Rattle.ledger.specs.Checks.{Verdict, orElse, firstNumber, callNumber, registrationCheck, receptionCheck, runCheck, readCheck, netCheck, bandCheck, fillCheck}
-use Rattle.ledger.specs.Ledger.{Ledger, start, Call, register, receive, run, readTotals, readCell, readNet, searchBand, fillHole, readCoverage, refused, answer, accepted, left, settingsShort, metersShort, anyShort, Lengths, ledgerAnswer, ledgerAfter, Opening}
+use Rattle.ledger.specs.Checks.{Verdict, orElse, firstNumber, callNumber, registrationCheck, receptionCheck, runCheck, readCheck, netCheck, bandCheck, fillCheck, previewCheck, rowCheck}
+use Rattle.ledger.specs.Ledger.{Ledger, start, Call, register, receive, run, readTotals, readCell, readNet, searchBand, fillHole, readCoverage, preview, readRow, refused, answer, accepted, left, settingsShort, metersShort, anyShort, Lengths, ledgerAnswer, ledgerAfter, Opening}
 use Rattle.ledger.specs.Store.{word, metersOf, settingsReady}
 use Rattle.ledger.specs.Ready.{ready, header-there}
-use Rattle.ledger.specs.Calls.{metersUnready, runUnready, cellsUnready, daysUnready, openingVerdict, registrationVerdict, receptionVerdict, runVerdict, dayVerdict, cellVerdict, netVerdict, bandVerdict, fillVerdict}
-use Rattle.ledger.specs.Engine.{Parts, callAnswer, leaves, openedParts, afterOpening, cut, restored, partsAfter, cutLengths, lengthsOf, AreBytes, BodyOfBytes}
+use Rattle.ledger.specs.Calls.{metersUnready, runUnready, cellsUnready, daysUnready, openingVerdict, registrationVerdict, receptionVerdict, runVerdict, dayVerdict, cellVerdict, netVerdict, bandVerdict, fillVerdict, previewVerdict, rowVerdict}
+use Rattle.ledger.specs.Engine.{Parts, callAnswer, leaves, openedParts, afterOpening, cut, restored, partsAfter, cutLengths, lengthsOf, AreBytes, BodyOfBytes, draftOf}
 use Rattle.ledger.proofs.Verdicts.{left-some}
 use Rattle.ledger.proofs.Open.{opening-accepted}
 use Rattle.ledger.proofs.Agreement.{Agrees, item-step, opened-agrees}
+use Rattle.ledger.proofs.PreviewDemands.{draft-long}
 use Rattle.input.specs.Operands.{receptionOperands, bodyOf}
 use Rattle.output.specs.Lines.{answerLine}
 use Rattle.commands.specs.Commands.{State, code, openingOf, sufficesFor, openingVerdictOn, openingAnswer, openingLeaves, callOf, lineFor, stateAfter}
@@ -37,7 +38,7 @@ use Rattle.conversation.proofs.Simulation.{Simulates, same-output}
 module _ (p : Parts) (unready : settingsReady (p .settings) ≡ false) where
   -- a call on settings that are not ready answers 1
   unready-answer : (c : Call) → callAnswer p c ≡ refused 1 0
-  unfolding callAnswer answer metersUnready runUnready cellsUnready daysUnready registrationVerdict receptionVerdict runVerdict dayVerdict cellVerdict netVerdict bandVerdict fillVerdict registrationCheck receptionCheck runCheck readCheck netCheck bandCheck fillCheck callNumber firstNumber orElse
+  unfolding callAnswer answer metersUnready runUnready cellsUnready daysUnready registrationVerdict receptionVerdict runVerdict dayVerdict cellVerdict netVerdict bandVerdict fillVerdict previewVerdict rowVerdict registrationCheck receptionCheck runCheck readCheck netCheck bandCheck fillCheck previewCheck rowCheck callNumber firstNumber orElse
   unready-answer (register a) = rw unready
   unready-answer (receive a) = rw unready
   unready-answer (run d) = rw unready
@@ -47,10 +48,12 @@ module _ (p : Parts) (unready : settingsReady (p .settings) ≡ false) where
   unready-answer (searchBand a) = rw unready
   unready-answer (fillHole a) = rw unready
   unready-answer (readCoverage d c) = rw unready
+  unready-answer (preview a) = rw unready
+  unready-answer (readRow a) = rw unready
 
   -- and changes nothing
   unready-leaves : (c : Call) → leaves p c ≡ p
-  unfolding leaves left metersUnready runUnready registrationVerdict receptionVerdict runVerdict registrationCheck receptionCheck runCheck callNumber firstNumber orElse
+  unfolding leaves left metersUnready runUnready registrationVerdict receptionVerdict runVerdict previewVerdict registrationCheck receptionCheck runCheck previewCheck callNumber firstNumber orElse
   unready-leaves (register a) = rw unready
   unready-leaves (receive a) = rw unready
   unready-leaves (run d) = rw unready
@@ -60,6 +63,8 @@ module _ (p : Parts) (unready : settingsReady (p .settings) ≡ false) where
   unready-leaves (searchBand a) = refl
   unready-leaves (fillHole a) = refl
   unready-leaves (readCoverage d c) = refl
+  unready-leaves (preview a) = rw unready
+  unready-leaves (readRow a) = refl
 
 -- ---- what the plain program keeps, and the parts
 
@@ -86,6 +91,7 @@ cut-whole p =
       readings = take-length (p .readings) i;
       cells = take-length (p .cells) i;
       days = take-length (p .days) i;
+      draft = p .draft;
     }
 
 put-back : (xs ys : List ℕ) → xs ++ drop (length ys) ys ≡ xs
@@ -101,6 +107,7 @@ restored-whole p q =
       readings = put-back (q .readings) (p .readings) i;
       cells = put-back (q .cells) (p .cells) i;
       days = put-back (q .days) (p .days) i;
+      draft = q .draft;
     }
 
 min-self : (n : ℕ) → min n n ≡ n
@@ -132,6 +139,10 @@ holds-step : (n : Lengths) (p : Parts) (l : Option Ledger) (c : Call) → Holds 
 unfolding plainAnswer ledgerLeft
 holds-step n p none c h b = (unready-answer p (h .unready) c, rw (unready-leaves p (h .unready) c) h)
 holds-step n p (some l) c h b = whole-step n p l c h b
+
+no-entries : (xs : List ℕ) → length xs ≡ 0 → xs ≡ []
+no-entries [] e = refl
+no-entries (x ∷ xs) e = absurd (let none : 1 ≤ 0 = omega (arith, e) in not-suc-le-zero none)
 
 -- ---- what a reception is given is made of bytes
 
@@ -182,9 +193,9 @@ left-by-verdict true p a = refl
 left-by-verdict false p a = sym (left-some (openingVerdictOn false p a) p (openedParts p a) (none-refused a))
 
 -- an accepted one leaves what agrees with the ledger's start
-accepted-agrees : (suffices : Bool) (p : Parts) (a : Opening) → openingVerdictOn suffices p a .number ≡ 0 → Agrees (lengthsOf p) (openedParts p a) (start a)
-accepted-agrees true p a passes = opened-agrees p a passes
-accepted-agrees false p a passes = absurd (none-refused a passes)
+accepted-agrees : (suffices : Bool) (p : Parts) (a : Opening) → p .draft ≡ [] → openingVerdictOn suffices p a .number ≡ 0 → Agrees (lengthsOf p) (openedParts p a) (start a (draftOf a []))
+accepted-agrees true p a alone passes = subst (λ (x : List ℕ). Agrees (lengthsOf p) (openedParts p a) (start a (draftOf a x))) alone (opened-agrees p a passes)
+accepted-agrees false p a alone passes = absurd (none-refused a passes)
 
 -- what holds before, and after an accepted one, holds of what is left
 left-related : {A B : Type 0} (R : A → B → Type 0) (v : Verdict) {a a′ : A} {b b′ : B} → R a b → (v .number ≡ 0 → R a′ b′) → R (left v a a′) (left v b b′)
@@ -199,22 +210,24 @@ plainOf s l = record { categoryBytes = s .categoryBytes; dayTypes = s .dayTypes;
 record Alike (n : Lengths) (s : State) (x : Plain) : Type 0 where
   collected : x ≡ plainOf s (x .ledger)
   stored : Holds n (s .parts) (x .ledger)
+  -- no command makes a draft
+  alone : s .parts .draft ≡ []
 
-module _ (capacity : Capacity) (n : Lengths) (s : State) (l : Option Ledger) (stored : Holds n (s .parts) l) (b : List ℕ) where
+module _ (capacity : Capacity) (n : Lengths) (s : State) (l : Option Ledger) (stored : Holds n (s .parts) l) (alone : s .parts .draft ≡ []) (b : List ℕ) where
   -- the command prints alike and leaves what is alike
   abbrev Step : Type 0
   Step = (lineFor capacity s b ≡ plainLine capacity n (plainOf s l) b) × Alike n (stateAfter capacity s b) (plainAfter capacity n (plainOf s l) b)
 
-  stepped : (s′ : State) (l′ : Option Ledger) → s′ ≡ stateAfter capacity s b → plainAfter capacity n (plainOf s l) b ≡ plainOf s′ l′ → Holds n (s′ .parts) l′ → lineFor capacity s b ≡ plainLine capacity n (plainOf s l) b → Step
-  stepped s′ l′ p q a line = (line, rw (← p, q) (record { collected = refl; stored = a }))
+  stepped : (s′ : State) (l′ : Option Ledger) → s′ ≡ stateAfter capacity s b → plainAfter capacity n (plainOf s l) b ≡ plainOf s′ l′ → Holds n (s′ .parts) l′ → s′ .parts .draft ≡ [] → lineFor capacity s b ≡ plainLine capacity n (plainOf s l) b → Step
+  stepped s′ l′ p q a d line = (line, rw (← p, q) (record { collected = refl; stored = a; alone = d }))
 
   category-step : code b ≡ 17 → Step
   unfolding lineFor plainLine plainAfter
-  category-step e = stepped _ l (collects-category capacity s b _ e refl) (rw e) stored (rw e)
+  category-step e = stepped _ l (collects-category capacity s b _ e refl) (rw e) stored alone (rw e)
 
   day-type-step : code b ≡ 18 → Step
   unfolding lineFor plainLine plainAfter
-  day-type-step e = stepped _ l (collects-day-type capacity s b _ e refl) (rw e) stored (rw e)
+  day-type-step e = stepped _ l (collects-day-type capacity s b _ e refl) (rw e) stored alone (rw e)
 
   abbrev asked : Opening
   asked = openingOf b (s .categoryBytes) (s .dayTypes)
@@ -226,24 +239,30 @@ module _ (capacity : Capacity) (n : Lengths) (s : State) (l : Option Ledger) (st
   verdict-is = rw (← lengths-are) (same-verdict capacity (s .parts) asked)
 
   abbrev opened : Option Ledger
-  opened = left (plainOpening capacity n asked) l (some (start asked))
+  opened = left (plainOpening capacity n asked) l (some (start asked (draftOf asked [])))
 
   opening-leaves : Holds n (openingLeaves capacity (s .parts) asked) opened
   unfolding openingLeaves
   opening-leaves =
       let suffices = sufficesFor capacity asked in
       rw (left-by-verdict suffices (s .parts) asked, ← verdict-is)
-      (left-related (Holds n) _ stored (λ passes. rw (← lengths-are) (accepted-agrees suffices (s .parts) asked passes)))
+      (left-related (Holds n) _ stored (λ passes. rw (← lengths-are) (accepted-agrees suffices (s .parts) asked alone passes)))
+
+  opening-alone : openingLeaves capacity (s .parts) asked .draft ≡ []
+  unfolding openingLeaves openedParts
+  opening-alone =
+      let suffices = sufficesFor capacity asked in
+      rw (left-by-verdict suffices (s .parts) asked) (left-related {A = Parts} {B = Unit {0}} (λ p x. p .draft ≡ []) (openingVerdictOn suffices (s .parts) asked) {b = tt} {b′ = tt} alone (λ passes. alone))
 
   opening-step : code b ≡ 16 → Step
   unfolding lineFor plainLine plainAfter openingAnswer
-  opening-step e = stepped _ opened (uses-up capacity s b _ e refl) (rw e) opening-leaves (rw e (ap (λ (v : Verdict). answerLine 16 (answer v accepted)) verdict-is))
+  opening-step e = stepped _ opened (uses-up capacity s b _ e refl) (rw e) opening-leaves opening-alone (rw e (ap (λ (v : Verdict). answerLine 16 (answer v accepted)) verdict-is))
 
   call-step : (code b ≡ 16 → ⊥) → (code b ≡ 17 → ⊥) → (code b ≡ 18 → ⊥) → AreBytes b → Step
   unfolding lineFor plainLine plainAfter
   call-step x y z h =
       let done = holds-step n (s .parts) l (callOf b) stored (call-bytes b h) in
-      stepped _ (ledgerLeft n l (callOf b)) (asks capacity s b _ x y z refl) (simp (ne-eqb _ _ x, ne-eqb _ _ y, ne-eqb _ _ z)) (done .1)
+      stepped _ (ledgerLeft n l (callOf b)) (asks capacity s b _ x y z refl) (simp (ne-eqb _ _ x, ne-eqb _ _ y, ne-eqb _ _ z)) (done .1) (no-entries _ (draft-long (s .parts) (callOf b) ∙ ap length alone))
       (simp (ne-eqb _ _ x, ne-eqb _ _ y, ne-eqb _ _ z) (ap (answerLine (code b)) (done .0)))
 
   step : AreBytes b → Step
@@ -260,7 +279,7 @@ module _ (capacity : Capacity) (n : Lengths) (s : State) (l : Option Ledger) (st
 
 command-step : (capacity : Capacity) (n : Lengths) (s : State) (x : Plain) (b : List ℕ) → Alike n s x → AreBytes b → (lineFor capacity s b ≡ plainLine capacity n x b) × Alike n (stateAfter capacity s b) (plainAfter capacity n x b)
 command-step capacity n s x b a h =
-    let done = step capacity n s (x .ledger) (a .stored) b h in
+    let done = step capacity n s (x .ledger) (a .stored) (a .alone) b h in
     rw (← a .collected) at done
 
 -- ---- every input
@@ -276,7 +295,7 @@ zeros-unready n =
     (λ f. f)
 
 first-alike : (n : Lengths) → Alike n (firstState n) firstPlain
-first-alike n = record { collected = refl; stored = record { unready = zeros-unready (n .settings); lengths = simp length-replicate } }
+first-alike n = record { collected = refl; stored = record { unready = zeros-unready (n .settings); lengths = simp length-replicate }; alone = refl }
 
 simulates : (g : Setup) (n : Lengths) → Simulates (storeProgram g) (plainProgram g n) (Alike n)
 simulates g n = record { extents = λ s x bytes a. rw (a .collected); steps = command-step (g .capacity) n }

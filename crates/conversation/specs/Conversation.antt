@@ -9,7 +9,7 @@ use lib.Dec.{eqb}
 use lib.ListN.{take, drop}
 use Rattle.ledger.specs.Checks.{Verdict, openingCheck}
 use Rattle.ledger.specs.Ledger.{Ledger, start, Call, Answer, refused, accepted, answer, left, Lengths, anyShort, ledgerAnswer, ledgerAfter, Opening}
-use Rattle.ledger.specs.Engine.{AreBytes}
+use Rattle.ledger.specs.Engine.{AreBytes, draftOf}
 use Rattle.output.specs.Lines.{answerLine}
 use Rattle.commands.specs.Commands.{code, openingOf, sufficesFor, callOf}
 use Rattle.commands.specs.Program.{Program, outputOf, Setup, nextExtent, storeProgram, firstState}
@@ -56,7 +56,7 @@ plainAfter capacity n x command =
     (cond (eqb (code command) 18)
     (record { categoryBytes = x .categoryBytes; dayTypes = x .dayTypes ++ take 1 (drop 1 command); ledger = x .ledger })
     (cond (eqb (code command) 16)
-    (record { categoryBytes = []; dayTypes = []; ledger = left (plainOpening capacity n a) (x .ledger) (some (start a)) })
+    (record { categoryBytes = []; dayTypes = []; ledger = left (plainOpening capacity n a) (x .ledger) (some (start a (draftOf a []))) })
     (record { categoryBytes = x .categoryBytes; dayTypes = x .dayTypes; ledger = ledgerLeft n (x .ledger) (callOf command) })))
 
 -- ---- the program

@@ -15,8 +15,7 @@ use Rattle.ledger.specs.Checks.{readCheck, totalsInRange}
 use Rattle.ledger.specs.Store.{categoriesOf, datesOf, categoryOf, dayRow, sumRow, totRow, offRow, dayIndex, DayEntries, isRunDay, coverageOf, peakOf, totalsOf}
 use Rattle.ledger.specs.Calls.{daysUnready, dayVerdict, stretchSum, datesSum, entriesAt, totalsFor, coverageFor}
 use Rattle.ledger.proofs.Choices.{check-passed}
-use Rattle.ledger.proofs.Lists.{part-length, sumBelow-cong}
-use Rattle.entries.proofs.RowLaws.{part-at}
+use Rattle.ledger.proofs.Lists.{part-length, part-at, sumBelow-cong}
 use Rattle.store.specs.DayRows.{RowsFit}
 use Rattle.store.proofs.DayLaws.{days-lent, rows-fit}
 use Rattle.day_reads.specs.DayAccepted.{DayAccepted}

@@ -15,8 +15,7 @@ use Rattle.ledger.specs.Store.{durationOf, categoriesOf, datesOf, periodsOf, ro
 use Rattle.ledger.specs.Calls.{wrappingSum, wrappingDifference, raised, raisedSums, placed, putDay, entriesFor, keptDays}
 use Rattle.entries.specs.Row.{spliced}
 use Rattle.entries.specs.Sums.{Summed}
-use Rattle.entries.proofs.RowLaws.{part-at}
-use Rattle.ledger.proofs.Lists.{length-tabulate, tabulate-ext, part-length, sumBelow-cong}
+use Rattle.ledger.proofs.Lists.{length-tabulate, tabulate-ext, part-length, part-at, sumBelow-cong}
 use Rattle.ledger.proofs.Days.{fresh-most, blanks-most, oldest-most}
 use Rattle.ledger.proofs.Kept.{for-cong}
 use Rattle.store.specs.DayRows.{RowsFit}

@@ -1,4 +1,4 @@
--- Laws of rows of entries: made from a function, while they are filled, a part of one, and counts of moved entries.
+-- Laws of rows of entries: made from a function, while they are filled, and counts of moved entries.
 use Prim.Native.Nat.{ℕ, zero, suc, _+_, _≤_, _<_, zero-le}
 use mathlib.Core.Path.{_≡_, sym, ap, _∙_}
 use mathlib.Core.List.{List, [], _∷_, _++_, append-assoc, append-nil}
@@ -7,7 +7,7 @@ use native.Mathlib.Numerals.{add-one}
 use native.Mathlib.Omega.{arith}
 use lib.Dec.{eqb}
 use lib.ListN.{length, getD, take, drop, List·getD-append}
-use lib.Seq.{drop-cons, getD-at, drop-length, getD-append-add, getD-drop, getD-take, take-at, drop-at, drop-drop}
+use lib.Seq.{drop-cons, getD-at, drop-length, getD-append-add, getD-drop, take-at, drop-at, drop-drop}
 use borrow.Table.Steps.{cases}
 use borrow.Author.Tests.{eqb-true, eqb-false}
 use Rattle.metering.specs.Sum.{sumBelow-suc, sumBelow-zero}
@@ -65,11 +65,6 @@ unfilled f xs ys k so low = rw so (filling-at f xs k low)
 pub filled-whole : (f : ℕ → ℕ) (xs ys : List ℕ) (k n : ℕ) → ys ≡ filling k f xs → k ≡ n → n ≡ length xs → ys ≡ tabulate n f
 filled-whole f xs ys k n so is whole =
     filled f xs ys k (length xs) so (is ∙ whole) ∙ filling-all f xs ∙ ap (λ (m : ℕ). tabulate m f) (sym whole)
-
--- ---- a part of a row
-
-pub part-at : (xs : List ℕ) (at n p : ℕ) → p < n → getD (take n (drop at xs)) p 0 ≡ getD xs (at + p) 0
-part-at xs at n p l = getD-take n (drop at xs) p 0 l ∙ getD-drop at xs p 0
 
 -- ---- differences
 

@@ -8,7 +8,7 @@ use lib.IntN.{ℤ, pos}
 use lib.ListN.{length, take}
 use Rattle.ledger.specs.Method.{letterOf, Cell, Totals, Coverage}
 use Rattle.ledger.specs.Opening.{Opening}
-use Rattle.ledger.specs.Ledger.{Answer, refused, accepted, moved, totalsAre, cellIs, netIs, bandIs, filledAre, coverageIs, left}
+use Rattle.ledger.specs.Ledger.{Answer, refused, accepted, moved, totalsAre, cellIs, netIs, bandIs, filledAre, coverageIs, rowIs, left}
 use Rattle.ledger.specs.Calls.{openingVerdict, openedSettings, openedMeters, openedReadings, openedCells, openedDays, overwritten}
 use Rattle.ledger.specs.Engine.{Every}
 use Rattle.fields.specs.declared.numbers.Numbers.{Numbers}
@@ -24,6 +24,7 @@ numberOf (netIs n) = 0
 numberOf (bandIs b) = 0
 numberOf (filledAre v) = 0
 numberOf (coverageIs c) = 0
+numberOf (rowIs r) = 0
 
 -- TOT OFF PEAK TOT7 OFF7 PEAK7 days7 ANN days FRESH BLANK
 abbrev pub totalsFields : Totals → List ℕ
@@ -43,7 +44,7 @@ signed [] = []
 signed (x ∷ xs) = pos x ∷ signed xs
 
 -- the fields in the order in which the command program prints them: energies in Wh, the flag as its letter; of a refusal the place.
--- Nets, marks, dates and filled values have lists of their own.
+-- Nets, marks, dates and filled values have lists of their own; a row has no such list at all.
 abbrev pub fieldsOf : Answer → List ℤ
 fieldsOf (refused number place) = pos place ∷ []
 fieldsOf accepted = []
@@ -54,6 +55,7 @@ fieldsOf (netIs n) = n .tot ∷ n .tot7 ∷ []
 fieldsOf (bandIs b) = pos (b .written) ∷ pos (b .found) ∷ []
 fieldsOf (filledAre v) = []
 fieldsOf (coverageIs c) = signed (coverageFields c)
+fieldsOf (rowIs r) = []
 
 -- 1 before all checks, and then nothing is written: the list has fewer than eleven entries
 abbrev pub listShort : List ℤ → Bool
@@ -92,6 +94,7 @@ FieldsFit (netIs n) = Unit {0}
 FieldsFit (bandIs b) = Fits (b .written) × Fits (b .found)
 FieldsFit (filledAre v) = Unit {0}
 FieldsFit (coverageIs c) = Every Fits (coverageFields c)
+FieldsFit (rowIs r) = Unit {0}
 
 -- the fields stand at the front of the array
 pub record AsNumbers (given : Answer) (r : Numbers) : Type 0 where

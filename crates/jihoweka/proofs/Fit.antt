@@ -13,18 +13,18 @@ use borrow.Table.Steps.{cases}
 use borrow.Author.Tests.{eqb-true, not-false}
 use Rattle.metering.specs.Average.{average, annual}
 use Rattle.metering.specs.Range.{dayTypeValid}
-use Rattle.ledger.specs.Method.{Category, Flag, A, D, E, N, letterOf}
+use Rattle.ledger.specs.Method.{Category, Flag, A, D, E, N, letterOf, Cell}
 use Rattle.ledger.specs.Opening.{Opening, categories, dates}
 use Rattle.ledger.specs.Table.{tabulate}
-use Rattle.ledger.specs.Checks.{Registration, RegistrationCall, ReceptionCall, Verdict, firstFailed, orElse, sizesValid, openingCheck, bodyCheck, inForceCheck, receptionCheck, runCheck, bandCheck, NetCall}
+use Rattle.ledger.specs.Checks.{Registration, RegistrationCall, ReceptionCall, Verdict, firstFailed, orElse, sizesValid, openingCheck, bodyCheck, inForceCheck, receptionCheck, bandCheck, NetCall}
 use Rattle.ledger.specs.Band.{BandCall, bandOn, bandDates}
 use Rattle.ledger.specs.Fill.{FillCall}
 use Rattle.ledger.specs.Ledger.{Answer, answer, accepted, moved, totalsAre, cellIs, netIs, bandIs, filledAre, coverageIs}
-use Rattle.ledger.specs.Store.{categoriesOf, datesOf, periodsOf, rowLength, dayTypeOf, categoryOf, settingsReady, readingsReady, cellsReady, daysReady, flagNumberOf, cellOfEntry, cellIndex, totRow, offRow, dayIndex, dayFresh, dayBlanks, isRunDay, coverageOf, energyOf, runDatesOf, peakOf, totalsOf}
-use Rattle.ledger.specs.Calls.{Published, asPublished, Placing, publish, openingVerdict, registrationVerdict, receptionVerdict, runUnready, runVerdict, rowAt, carriedEntry, comparedEntry, differing, follows, movedInRow, movedByRow, followRow, inheritedAfter, carryOn, settled, newRow, ranFrom, stretchSum, datesSum, daysUnready, dayVerdict, entriesAt, totalsFor, cellVerdict, cellFor, netVerdict, netFor, bandVerdict, bandFor, fillVerdict, fillFor, coverageFor}
+use Rattle.ledger.specs.Store.{categoriesOf, datesOf, periodsOf, rowLength, dayTypeOf, categoryOf, settingsReady, daysReady, flagNumberOf, cellOfEntry, cellIndex, totRow, offRow, dayIndex, dayFresh, dayBlanks, isRunDay, coverageOf, energyOf, runDatesOf, peakOf, totalsOf}
+use Rattle.ledger.specs.Calls.{Published, asPublished, Placing, publish, openingVerdict, registrationVerdict, receptionVerdict, runVerdict, rowAt, carriedEntry, comparedEntry, differing, follows, movedInRow, movedByRow, followRow, inheritedAfter, carryOn, settled, newRow, ranFrom, stretchSum, datesSum, daysUnready, dayVerdict, entriesAt, totalsFor, cellVerdict, cellFor, netVerdict, netFor, bandVerdict, bandFor, fillVerdict, fillFor, coverageFor, previewVerdict}
 use Rattle.ledger.specs.Ready.{Ready, ready, row-bounds}
 use Rattle.ledger.proofs.Open.{sizes-valid}
-use Rattle.ledger.proofs.Choices.{check-passed}
+use Rattle.ledger.proofs.Choices.{check-passed, accepted-run, accepted-preview}
 use Rattle.ledger.proofs.Chosen.{chosen-few}
 use Rattle.entries.proofs.RowLaws.{differing-le}
 use Rattle.store.specs.declared.outcome.Outcome.{Outcome}
@@ -111,15 +111,11 @@ ran-moved S M R C K d k =
     let all = walk-moved publish S (dayTypeOf S d) n (λ x. carriedEntry (newRow S M R C d x)) (suc d) (publish S d (tabulate (rowLength S) (newRow S M R C d)) (asPublished C K)) (differing (rowLength S) (λ x. comparedEntry (rowAt (rowLength S) C d x)) (newRow S M R C d)) in
     omega (arith, all, own, row, mul-le-mul-right (rowLength S) (let t = k .dates .1 in let z : n ≤ 800 = omega arith in z), mul-le-mul-left 800 row)
 
-opened-all : (S M R C K : List ℕ) (d : ℕ) → runVerdict S M R C K d .number ≡ 0 → Ready S
-unfolding runVerdict runCheck runUnready
-opened-all S M R C K d e =
-    let all = not-false _ (check-passed _ 0 _ e .0) in
-    let cells = and-eq-true-iff _ (daysReady S K) .0 all .0 in
-    ready S (and-eq-true-iff (settingsReady S) _ .0 (and-eq-true-iff _ (readingsReady S R) .0 (and-eq-true-iff _ (cellsReady S C) .0 cells .0) .0) .0)
-
 pub run-fits : (S M R C K : List ℕ) (d : ℕ) → FieldsFit (answer (runVerdict S M R C K d) (moved (ranFrom S M R C K d .moved)))
-run-fits S M R C K d = answer-fits (runVerdict S M R C K d) (moved (ranFrom S M R C K d .moved)) (unfold runVerdict in omega arith) (λ e. ran-moved S M R C K d (opened-all S M R C K d e))
+run-fits S M R C K d = answer-fits (runVerdict S M R C K d) (moved (ranFrom S M R C K d .moved)) (unfold runVerdict in omega arith) (λ e. ran-moved S M R C K d (ready S (accepted-run S M R C K d e .0)))
+
+pub preview-fits : (S M R C K draft : List ℕ) (d : ℕ) → FieldsFit (answer (previewVerdict S M R C K draft d) (moved (ranFrom S M R C K d .moved)))
+preview-fits S M R C K draft d = answer-fits (previewVerdict S M R C K draft d) (moved (ranFrom S M R C K d .moved)) (unfold previewVerdict in omega arith) (λ e. ran-moved S M R C K d (ready S (accepted-preview S M R C K draft d e .0 .0)))
 
 -- ---- reads, where entries are of 64 bits
 
@@ -141,20 +137,25 @@ count-and-origin-low : (e : ℕ) → Fits (cellOfEntry e .count) × Fits (cellOf
 unfolding cellOfEntry
 count-and-origin-low e = cases (eqb (flagNumberOf e) 0) (λ q. rw q (omega arith, omega arith)) (λ q. rw q (omega arith, omega arith))
 
-module _ (S C : List ℕ) (entries : (i : ℕ) → getD C i 0 < 18446744073709551616) where
-  value-low : (d c j : ℕ) → cellFor S C d c j .value ≤ 4294967295
-  unfolding cellFor cellOfEntry
-  value-low d c j = let e = entries (cellIndex (categoriesOf S) (periodsOf S) d c j) in omega arith
+value-low : (e : ℕ) → e < 18446744073709551616 → cellOfEntry e .value ≤ 4294967295
+unfolding cellOfEntry
+value-low e h = omega arith
 
-  cell-low : (d c j : ℕ) → FieldsFit (cellIs (cellFor S C d c j))
-  unfolding cellFor
-  cell-low d c j =
-      let v = value-low d c j in
-      let few = count-and-origin-low (getD C (cellIndex (categoriesOf S) (periodsOf S) d c j) 0) in
-      (letter-low (cellFor S C d c j .flag), (omega arith, (few .0, (few .1, tt))))
+entry-fits : (e : ℕ) → e < 18446744073709551616 → FieldsFit (cellIs (cellOfEntry e))
+entry-fits e h =
+    let v = value-low e h in
+    let few = count-and-origin-low e in
+    (letter-low (cellOfEntry e .flag), (omega arith, (few .0, (few .1, tt))))
 
-  pub cell-fits : (d c j : ℕ) → FieldsFit (answer (cellVerdict S C d c j) (cellIs (cellFor S C d c j)))
-  cell-fits d c j = answer-fits (cellVerdict S C d c j) (cellIs (cellFor S C d c j)) (unfold cellVerdict in omega arith) (λ e. cell-low d c j)
+-- of a cell that was read off it too
+pub read-fits : (a : Cell) (e : ℕ) → a ≡ cellOfEntry e → e < 18446744073709551616 → FieldsFit (cellIs a)
+read-fits a e is h = rw is (entry-fits e h)
+
+pub cell-fits : (S C : List ℕ) → ((i : ℕ) → getD C i 0 < 18446744073709551616) → (d c j : ℕ) → FieldsFit (answer (cellVerdict S C d c j) (cellIs (cellFor S C d c j)))
+unfolding cellFor
+cell-fits S C entries d c j =
+    answer-fits (cellVerdict S C d c j) (cellIs (cellFor S C d c j)) (unfold cellVerdict in omega arith)
+    (λ e. entry-fits (getD C (cellIndex (categoriesOf S) (periodsOf S) d c j) 0) (entries _))
 
 -- there are at most as many dates as the store has
 pub band-fits : (S K : List ℕ) (a : BandCall) → FieldsFit (answer (bandVerdict S K a) (bandIs (bandFor S K a)))

@@ -1,5 +1,6 @@
 // The library for C: every call as an exported function on numbers and slices. `include/jihoweka.h` declares them.
 // The number is returned; the other fields of the answer go to the front of the list `fields`, which is looked at before all else.
+use engine::CellOutcome;
 use engine::OpeningTerms;
 use fields::numbers::of_band;
 use fields::numbers::of_cell;
@@ -11,12 +12,16 @@ use fields::numbers::of_totals;
 use fields::numbers::put_fields;
 ghost use mathlib.Core.Path.{_≡_};
 ghost use mathlib.Core.Bool.{not};
+ghost use mathlib.Core.List.{[]};
 ghost use lib.Dec.{eqb};
+ghost use lib.ListN.{length};
 ghost use Rattle.ledger.specs.Ledger.{answer, accepted, moved, totalsAre, cellIs, netIs, bandIs, filledAre, coverageIs, left};
 ghost use Rattle.ledger.specs.Fill.{ofCategory, ofOptedOut};
-ghost use Rattle.ledger.specs.Calls.{openingVerdict, registrationVerdict, registeredMeters, receptionVerdict, receivedReadings, runVerdict, ranFrom, dayVerdict, totalsFor, cellVerdict, cellFor, netVerdict, netFor, bandVerdict, bandFor, fillVerdict, fillFor, coverageFor, overwritten};
+ghost use Rattle.ledger.specs.Store.{cellOfEntry};
+ghost use Rattle.ledger.specs.Calls.{openingVerdict, registrationVerdict, registeredMeters, receptionVerdict, receivedReadings, runVerdict, ranFrom, dayVerdict, totalsFor, cellVerdict, cellFor, netVerdict, netFor, bandVerdict, bandFor, fillVerdict, fillFor, coverageFor, previewVerdict, previewed, rowVerdict, rowFor, overwritten};
 ghost use Rattle.registration.specs.Registration.{registrationCall};
 ghost use Rattle.reception.specs.Reception.{receptionCall};
+ghost use Rattle.reads.specs.Row.{rowCall};
 ghost use Rattle.net.specs.Asked.{netCall};
 ghost use Rattle.band.specs.Search.{bandCall};
 ghost use Rattle.fill.specs.Asked.{fillCall};
@@ -153,6 +158,27 @@ pub extern "C" fn jihoweka_run(
 }
 
 #[no_mangle]
+pub extern "C" fn jihoweka_preview(
+    settings: &[u8],
+    meters: &[u64],
+    readings: &[u64],
+    cells: &[u64],
+    days: &[u64],
+    draft: &mut [u64],
+    date: u64,
+    fields: &mut [i64],
+) -> u64
+    ensures answers { λ r. ⌜ Returned (now (fields .entry)) (answer (previewVerdict (now (settings .entry)) (now (meters .entry)) (now (readings .entry)) (now (cells .entry)) (now (days .entry)) (now (draft .entry)) date) (moved (ranFrom (now (settings .entry)) (now (meters .entry)) (now (readings .entry)) (now (cells .entry)) (now (days .entry)) date .moved))) r (now (fields .exit)) ⌝ }
+    ensures draft_is { λ r. ⌜ now (draft .exit) ≡ unlessShort (now (fields .entry)) (now (draft .entry)) (left (previewVerdict (now (settings .entry)) (now (meters .entry)) (now (readings .entry)) (now (cells .entry)) (now (days .entry)) (now (draft .entry)) date) (now (draft .entry)) (overwritten (previewed (now (settings .entry)) (now (meters .entry)) (now (readings .entry)) (now (cells .entry)) (now (days .entry)) date) (now (draft .entry)))) ⌝ }
+{
+    if fields.len() < FIELDS {
+        return SHORT;
+    }
+    let outcome = engine::preview(settings, meters, readings, cells, days, draft, date);
+    put_fields(fields, of_run(outcome))
+}
+
+#[no_mangle]
 pub extern "C" fn jihoweka_read_totals(
     settings: &[u8],
     days: &[u64],
@@ -184,6 +210,37 @@ pub extern "C" fn jihoweka_read_cell(
         return SHORT;
     }
     let outcome = engine::read_cell(settings, cells, date, category, period);
+    put_fields(fields, of_cell(outcome))
+}
+
+// `from_draft` is a switch: 0 names the published cells, any other number the draft. A reference cannot be returned to C: the length is, and the
+// header says where the row stands.
+#[no_mangle]
+pub extern "C" fn jihoweka_read_row<'a>(
+    settings: &[u8],
+    cells: &'a [u64],
+    draft: &'a [u64],
+    date: u64,
+    category: u64,
+    from_draft: u64,
+    number: &mut u64,
+) -> u64
+    ensures { λ r. ⌜ r ≡ length (left (rowVerdict (now (settings .entry)) (now (cells .entry)) (now (draft .entry)) (rowCall date category «from_draft» (now (draft .entry)))) [] (rowFor (now (settings .entry)) (now (cells .entry)) (now (draft .entry)) (rowCall date category «from_draft» (now (draft .entry))))) ⌝ }
+    ensures { λ r. ⌜ now (number .exit) ≡ rowVerdict (now (settings .entry)) (now (cells .entry)) (now (draft .entry)) (rowCall date category «from_draft» (now (draft .entry))) .number ⌝ }
+{
+    let row = engine::read_row(settings, cells, draft, date, category, from_draft, number);
+    row.len() as u64
+}
+
+// The cell of an entry of a row.
+#[no_mangle]
+pub extern "C" fn jihoweka_read_entry(entry: u64, fields: &mut [i64]) -> u64
+    ensures { λ r. ⌜ Returned (now (fields .entry)) (cellIs (cellOfEntry entry)) r (now (fields .exit)) ⌝ }
+{
+    if fields.len() < FIELDS {
+        return SHORT;
+    }
+    let outcome = CellOutcome::Cell(engine::cell_of_entry(entry));
     put_fields(fields, of_cell(outcome))
 }
 

@@ -18,8 +18,8 @@ use Rattle.ledger.specs.Store.{categoriesOf, datesOf, rowLength, entryOf}
 use Rattle.ledger.specs.Table.{tabulate, filling}
 use Rattle.ledger.specs.Calls.{rowAt, putRow, lastRun, inheritedFrom, differing, carriedEntry, keptDays, Published, asPublished, Placing, publish, countOnly, follows, followedEntry, inheritedBeyond, followRow, inheritedAfter, movedInRow, carryOn}
 use Rattle.ledger.proofs.Walks.{put-same, carryOn-end, carryOn-pass, carryOn-stop, carryOn-go, carryOn-same}
-use Rattle.ledger.proofs.Lists.{length-tabulate, getD-tabulate, tabulate-ext, part-length}
-use Rattle.entries.proofs.RowLaws.{filling-below, part-at, differing-le, differing-ext, differing-none}
+use Rattle.ledger.proofs.Lists.{length-tabulate, getD-tabulate, tabulate-ext, part-length, part-at}
+use Rattle.entries.proofs.RowLaws.{filling-below, differing-le, differing-ext, differing-none}
 use Rattle.entries.specs.Row.{spliced}
 use Rattle.later_dates.specs.Walk.{Stepped}
 
@@ -194,8 +194,18 @@ module _ (s : List ℕ) (t d : ℕ) (inherited cells : List ℕ) (in-range : d <
         (λ z. sym (published-is s d at w (followRow (rowLength s) cells d (λ k. getD inherited k 0)) cells days ys days′ start width fit (follow-row (rowLength s) d at w cells inherited start width fit ys row) kept))
         inherits moves
 
-  pub step-counted : Stepped countOnly s t d inherited (asPublished cells []) inherited′ (asPublished cells []) more (eqb more 0)
+  step-counted : Stepped countOnly s t d inherited (asPublished cells []) inherited′ (asPublished cells []) more (eqb more 0)
   step-counted = step-follow countOnly s t d inherited (asPublished cells []) in-range test small inherited′ (asPublished cells []) more (λ z. refl) (λ z. refl) inherits moves
+
+-- counted in a copy of that part
+pub step-copied : (s : List ℕ) (t d : ℕ) (inherited cells : List ℕ) → d < datesOf s → follows s t cells d ≡ true → rowLength s ≤ 6144 →
+    d * rowLength s + rowLength s ≤ length cells → (at w : ℕ) → at ≡ d * rowLength s → w ≡ rowLength s →
+    (copy : List ℕ) → copy ≡ take w (drop at cells) → (inherited′ : List ℕ) (more : ℕ) →
+    inherited′ ≡ filling (length copy) (λ k. inheritedBeyond (getD copy k 0) (getD inherited k 0)) inherited →
+    more ≡ differing (length copy) (λ k. getD copy k 0) (λ k. followedEntry (getD copy k 0) (getD inherited k 0)) →
+    Stepped countOnly s t d inherited (asPublished cells []) inherited′ (asPublished cells []) more (eqb more 0)
+step-copied s t d inherited cells in-range test small fit at w start width copy is inherited′ more after counts =
+    step-counted s t d inherited cells in-range test small fit at w start width inherited′ more (rw is at after) (rw is at counts)
 
 -- the walk has come to date d: what is left of it gives what the whole gives
 pub record Walked (place : Placing) (s : List ℕ) (t first moved : ℕ) (inherited₀ : List ℕ) (p₀ : Published) (inherited : List ℕ) (p : Published) (total d : ℕ) : Type 0 where

@@ -1,10 +1,22 @@
-// What later dates inherit from a row, and a later run date's row, counted or written.
+// A row copied, what later dates inherit from one, and a later run date's row.
 use entries::entry;
 ghost use mathlib.Core.Path.{_≡_};
 ghost use Prim.Native.Nat.{_+_, _≤_};
 ghost use lib.ListN.{length, getD};
 ghost use Rattle.ledger.specs.Table.{tabulate, filling};
-ghost use Rattle.ledger.specs.Calls.{carriedEntry, differing, followedEntry, inheritedBeyond};
+ghost use Rattle.ledger.specs.Calls.{carriedEntry, differing, followedEntry, inheritedBeyond, overwritten};
+
+// The copy is the front of a list that has room for it.
+pub fn copy_row(row: &[u64], copy: &mut [u64])
+    requires { ⌜ length (now row) ≤ length (now copy) ⌝ }
+    ensures { λ r. ⌜ now (copy .exit) ≡ overwritten (now (row .entry)) (now (copy .entry)) ⌝ }
+{
+    let mut k: usize = 0;
+    while k < row.len() {
+        copy[k] = row[k];
+        k += 1;
+    }
+}
 
 // What the date after a row takes over from it; the row starts at `at`.
 pub fn carry_row(cells: &[u64], at: usize, row_length: usize, inherited: &mut [u64])
@@ -36,25 +48,8 @@ fn inherited_beyond(old: u64, inherited: u64) -> u64
     inherited
 }
 
-// Counts the cells of a later run date's row that are to move, and leaves in `inherited` what the date after it takes over.
-pub fn count_row(row: &[u64], inherited: &mut [u64]) -> u64
-    requires { ⌜ length (now row) ≤ length (now inherited) ⌝ }
-    ensures { λ r. ⌜ now (inherited .exit) ≡ filling (length (now (row .entry))) (λ k. inheritedBeyond (getD (now (row .entry)) k 0) (getD (now (inherited .entry)) k 0)) (now (inherited .entry)) ⌝ }
-    ensures { λ r. ⌜ r ≡ differing (length (now (row .entry))) (λ k. getD (now (row .entry)) k 0) (λ k. followedEntry (getD (now (row .entry)) k 0) (getD (now (inherited .entry)) k 0)) ⌝ }
-{
-    let mut moved: u64 = 0;
-    let mut k: usize = 0;
-    while k < row.len() {
-        let old = row[k];
-        let before = inherited[k];
-        moved += entry::moved_entry(old, followed(old, before));
-        inherited[k] = inherited_beyond(old, before);
-        k += 1;
-    }
-    moved
-}
-
-// The same, and the row is written: its own shapes stand, its other cells follow the predecessor. One loop, since a row is read once.
+// A later run date's row: its own shapes stand, its other cells follow the predecessor. Counts those that move, and leaves in `inherited` what
+// the date after it takes over. One loop, since a row is read once.
 pub fn follow_row(row: &mut [u64], inherited: &mut [u64]) -> u64
     requires { ⌜ length (now row) ≤ length (now inherited) ⌝ }
     ensures { λ r. ⌜ now (row .exit) ≡ tabulate (length (now (row .entry))) (λ k. followedEntry (getD (now (row .entry)) k 0) (getD (now (inherited .entry)) k 0)) ⌝ }

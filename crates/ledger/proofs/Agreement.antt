@@ -1,33 +1,36 @@
 -- Agreement with the plain ledger: every call keeps the relation and answers alike, so every list of calls does.
-use Prim.Native.Nat.{ℕ, zero, suc, _≤_, _<_}
+use Prim.Native.Nat.{ℕ, zero, suc, _+_, _-_, _*_, _≤_, _<_, min}
 use mathlib.Core.Path.{_≡_, refl, sym, ap, ap₂, _∙_}
 use mathlib.Core.Bool.{Bool, true, false, not, _||_, and-eq-true-iff, cond}
 use mathlib.Core.List.{List, [], _∷_}
 use native.Mathlib.Omega.{arith}
+use native.Mathlib.Nat.{suc-mul, mul-le-mul-right}
 use lib.Dec.{eqb, leb, ltb}
-use lib.ListN.{length, take, take-append-drop}
+use lib.ListN.{length, take, length-take, take-append-drop}
 use borrow.Table.Steps.{cases}
 use borrow.Author.Tests.{eqb-true, leb-false, ltb-true, ltb-false, not-false}
 use Rattle.metering.specs.Laws.{between-true}
 use Rattle.metering.specs.Range.{between}
-use Rattle.ledger.specs.Checks.{RegistrationCall, ReceptionCall, Verdict, verdict, orElse, firstNumber, callNumber, registrationCheck, receptionCheck, runCheck, rangeCheck, readCheck, totalsInRange, cellInRange, NetCall, listsShort, mayNet, netCheck, bandCheck, fillCheck}
+use Rattle.ledger.specs.Checks.{RegistrationCall, ReceptionCall, Verdict, verdict, orElse, firstNumber, callNumber, registrationCheck, receptionCheck, runCheck, rangeCheck, readCheck, totalsInRange, cellInRange, NetCall, listsShort, mayNet, netCheck, bandCheck, fillCheck, PreviewCall, RowCall, isPublished, previewCheck, rowCheck}
 use Rattle.ledger.specs.Band.{BandCall}
 use Rattle.ledger.specs.Fill.{FillCall, mayFill}
-use Rattle.ledger.specs.Sizes.{metersLength, cellsLength, daysLength}
-use Rattle.ledger.specs.Ledger.{Opening, categories, dates, periods, Meter, category, Ledger, start, Call, register, receive, run, readTotals, readCell, readNet, searchBand, fillHole, readCoverage, Answer, moved, totalsAre, cellIs, netIs, bandIs, filledAre, coverageIs, answer, left, Lengths, settingsShort, metersShort, cellsShort, daysShort, anyShort, ledgerRegistrationCheck, afterRegistration, ledgerReceptionCheck, afterReception, cellAt, isRun, ledgerRunCheck, afterRun, movedBetween, ledgerTotalsCheck, ledgerCellCheck, totalsAt, ledgerNetCheck, netAt, ledgerBandCheck, bandAt, shapeAt, weightAt, ledgerFillCheck, fillAt, ledgerCoverageCheck, coverageAt, ledgerAnswer, ledgerAfter}
-use Rattle.ledger.specs.Store.{rowLength, datesOf, categoriesOf, periodsOf, isRunAt, categoryOf, isRunDay}
-use Rattle.ledger.specs.Calls.{metersUnready, cellsUnready, daysUnready, openingVerdict, openedMeters, openedReadings, openedCells, openedDays, registrationVerdict, registeredMeters, receptionVerdict, receivedReadings, runVerdict, ranFrom, dayVerdict, totalsFor, cellVerdict, cellFor, netVerdict, netFor, bandVerdict, bandFor, shapeFor, weightFor, fillVerdict, fillFor, coverageFor}
-use Rattle.ledger.specs.Engine.{Parts, callAnswer, withMeters, withReadings, withPublished, leaves, openedParts, Item, cut, restored, partsAfter, answersFrom, storeAnswers, cutLengths, ledgerAnswers, Every, lengthsOf, AreBytes, BodyOfBytes, BodiesOfBytes, Agreement}
+use Rattle.ledger.specs.Sizes.{metersLength, cellsLength, daysLength, draftLength}
+use Rattle.ledger.specs.Ledger.{Opening, categories, dates, periods, Meter, category, Ledger, start, Call, register, receive, run, readTotals, readCell, readNet, searchBand, fillHole, readCoverage, preview, readRow, Answer, moved, totalsAre, cellIs, netIs, bandIs, filledAre, coverageIs, rowIs, answer, left, Lengths, settingsShort, metersShort, cellsShort, daysShort, anyShort, ledgerRegistrationCheck, afterRegistration, ledgerReceptionCheck, afterReception, cellAt, isRun, ledgerRunCheck, afterRun, movedByRun, ledgerTotalsCheck, ledgerCellCheck, totalsAt, ledgerNetCheck, netAt, ledgerBandCheck, bandAt, shapeAt, weightAt, ledgerFillCheck, fillAt, ledgerCoverageCheck, coverageAt, draftShort, ledgerPreviewCheck, afterPreview, ledgerRowCheck, rowShown, ledgerAnswer, ledgerAfter}
+use Rattle.ledger.specs.Store.{rowLength, datesOf, categoriesOf, periodsOf, cellOfEntry, isRunAt, categoryOf, isRunDay}
+use Rattle.ledger.specs.Calls.{metersUnready, cellsUnready, daysUnready, openingVerdict, openedMeters, openedReadings, openedCells, openedDays, registrationVerdict, registeredMeters, receptionVerdict, receivedReadings, runVerdict, ranFrom, dayVerdict, totalsFor, cellVerdict, cellFor, netVerdict, netFor, bandVerdict, bandFor, shapeFor, weightFor, fillVerdict, fillFor, coverageFor, previewVerdict, previewed, draftStart, publishedStart, rowVerdict, rowFor}
+use Rattle.ledger.specs.Engine.{Parts, cellsOf, callAnswer, withMeters, withReadings, withPublished, withDraft, drafted, leaves, openedParts, Item, cut, restored, partsAfter, answersFrom, storeAnswers, cutLengths, ledgerAnswers, Every, lengthsOf, AreBytes, BodyOfBytes, BodiesOfBytes, draftOf, Agreement}
 use Rattle.ledger.proofs.Choices.{check-passed, neither, both-passed, call-passed}
 use Rattle.ledger.proofs.Verdicts.{left-of, passed-else}
-use Rattle.ledger.proofs.Relation.{SettingsAgree, MetersAgree, ReadingsAgree, CellsAgree, DaysAgree, SoundMeters, Sound}
+use Rattle.ledger.proofs.Relation.{SettingsAgree, MetersAgree, ReadingsAgree, CellsAgree, DaysAgree, DraftAgree, SoundMeters, Sound}
 use Rattle.ledger.proofs.Settings.{settings-cut, meters-unready, cells-unready, days-unready, run-unready}
 use Rattle.ledger.proofs.Parts.{cut-agrees, back-agrees, meters-rest, readings-rest, cells-rest, days-rest, cut-lengths, restored-cut, restored-lengths}
-use Rattle.ledger.proofs.Runs.{after-sound, run-agrees, run-length, run-moved, run-days, run-days-length}
+use Rattle.ledger.proofs.Runs.{after-sound, run-agrees, run-length, run-shows, previewed-long, run-moved, run-days, run-days-length}
 use Rattle.ledger.proofs.Register.{registration-check, registration-accepted, registration-agrees}
 use Rattle.ledger.proofs.Receive.{reception-check, reception-accepted, reception-agrees}
 use Rattle.ledger.proofs.Open as open-step
-use Rattle.ledger.proofs.Answers.{run-is, cell-is, totals-are, may-net-is, net-is, band-is, shape-is, may-fill-is, fill-is, run-day-is, coverage-is}
+use Rattle.ledger.proofs.Answers.{run-is, cell-is, totals-are, may-net-is, net-is, band-is, shape-is, may-fill-is, fill-is, run-day-is, coverage-is, published-row}
+use Rattle.ledger.proofs.Drafts.{draft-short, draft-taken, cells-of}
+use Rattle.ledger.proofs.Lists.{getD-cut}
 
 -- ---- the relation
 
@@ -38,6 +41,7 @@ pub record Agrees (whole : Lengths) (p : Parts) (l : Ledger) : Type 0 where
   readings : ReadingsAgree (l .opening) (p .readings) (l .known)
   cells : CellsAgree (l .opening) (p .cells) (l .pictures)
   days : DaysAgree (l .opening) (p .days) (l .pictures)
+  draft : DraftAgree (l .opening) (p .draft) (l .draft)
   pub lengths : lengthsOf p ≡ whole
 
 -- answers whose values are equal where the call is accepted
@@ -140,7 +144,7 @@ module _ (whole : Lengths) (p : Parts) (l : Ledger) (agrees : Agrees whole p l) 
 
   -- both write what is known of the meters
   known-agrees : (known : List Meter) (m r : List ℕ) → MetersAgree o m known → ReadingsAgree o r known → SoundMeters (categories o) known → length known ≤ o .meters → length m ≡ length M → length r ≡ length R →
-      Agrees whole (restored n p (record { settings = S; meters = m; readings = r; cells = C; days = D })) (record { opening = o; known = known; pictures = l .pictures })
+      Agrees whole (restored n p (record { settings = S; meters = m; readings = r; cells = C; days = D; draft = p .draft })) (record { opening = o; known = known; pictures = l .pictures; draft = l .draft })
   unfolding restored
   known-agrees known m r meters readings sound few m-long r-long =
       record {
@@ -150,7 +154,8 @@ module _ (whole : Lengths) (p : Parts) (l : Ledger) (agrees : Agrees whole p l) 
         readings = back-agrees (readings-rest o known) (n .readings) (p .readings) r readings;
         cells = rw (take-append-drop (n .cells) (p .cells)) (agrees .cells);
         days = rw (take-append-drop (n .days) (p .days)) (agrees .days);
-        lengths = restored-lengths n p (record { settings = S; meters = m; readings = r; cells = C; days = D }) (rw (m-long, r-long)) ∙ agrees .lengths;
+        draft = agrees .draft;
+        lengths = restored-lengths n p (record { settings = S; meters = m; readings = r; cells = C; days = D; draft = p .draft }) (rw (m-long, r-long)) ∙ agrees .lengths;
       }
 
   registration-verdict : (a : RegistrationCall) → registrationVerdict S M R a ≡ ledgerRegistrationCheck l lent a
@@ -203,17 +208,21 @@ module _ (whole : Lengths) (p : Parts) (l : Ledger) (agrees : Agrees whole p l) 
       (λ q. rw q (unfold runCheck in refl))
       (λ q. rw (q, enough-all q .0 .0 .dates-are)))
 
-  module _ (d : ℕ) (passed : ledgerRunCheck l lent d .number ≡ 0) where
-    run-ok : (MetersEnough × CellsAgree o C (l .pictures) × DaysAgree o D (l .pictures)) × (d < dates o)
-    unfolding ledgerRunCheck runCheck
-    run-ok =
-        let a = check-passed (anyShort o lent) 0 _ passed in
-        (enough-all (a .0), leb-false (dates o) d (check-passed (leb (dates o) d) 8 0 (a .1) .0))
+  -- all parts are long enough, and the date is one
+  abbrev RunOk : ℕ → Type 0
+  RunOk d = (MetersEnough × CellsAgree o C (l .pictures) × DaysAgree o D (l .pictures)) × (d < dates o)
 
+  run-ok : (d : ℕ) → ledgerRunCheck l lent d .number ≡ 0 → RunOk d
+  unfolding ledgerRunCheck runCheck
+  run-ok d passed =
+      let a = check-passed (anyShort o lent) 0 _ passed in
+      (enough-all (a .0), leb-false (dates o) d (check-passed (leb (dates o) d) 8 0 (a .1) .0))
+
+  module _ (d : ℕ) (ok : RunOk d) where
     run-taken : Agrees whole (restored n p (withPublished (ranFrom S M R C D d .published) (cut n p))) (afterRun l d)
     unfolding afterRun restored
     run-taken =
-        let (((s, m, r), c, k), h) = run-ok in
+        let (((s, m, r), c, k), h) = ok in
         record {
           sound = record { valid = agrees .sound .valid; meters = agrees .sound .meters; few = agrees .sound .few; pictures-are = after-sound l S M R C D (agrees .sound) s m r c k d h };
           settings = rw (take-append-drop (n .settings) (p .settings)) (agrees .settings);
@@ -221,20 +230,65 @@ module _ (whole : Lengths) (p : Parts) (l : Ledger) (agrees : Agrees whole p l) 
           readings = rw (take-append-drop (n .readings) (p .readings)) (agrees .readings);
           cells = back-agrees (cells-rest o _) (n .cells) (p .cells) _ (run-agrees l S M R C D (agrees .sound) s m r c k d h);
           days = back-agrees (days-rest o _) (n .days) (p .days) _ (run-days l S M R C D (agrees .sound) s m r c k d h);
+          draft = agrees .draft;
           lengths = restored-lengths n p (withPublished (ranFrom S M R C D d .published) (cut n p)) (rw (run-length l S M R C D (agrees .sound) s m r c k d h, run-days-length l S M R C D (agrees .sound) s m r c k d h)) ∙ agrees .lengths;
         }
 
     -- the number it reports
-    run-reports : ranFrom S M R C D d .moved ≡ movedBetween o (cellAt l) (cellAt (afterRun l d))
+    run-reports : ranFrom S M R C D d .moved ≡ movedByRun l d
     unfolding afterRun cellAt
-    run-reports = let (((s, m, r), c, k), h) = run-ok in run-moved l S M R C D (agrees .sound) s m r c k d h
+    run-reports = let (((s, m, r), c, k), h) = ok in run-moved l S M R C D (agrees .sound) s m r c k d h
 
   run-step : (d : ℕ) → Step (run d)
   unfolding callAnswer leaves ledgerAnswer ledgerAfter
   run-step d =
       record {
-        answers = rw (run-verdict d) (same-answer _ _ _ (λ e. ap moved (run-reports d e)));
-        after = rw (run-verdict d) (left-restored _ _ _ (run-taken d));
+        answers = rw (run-verdict d) (same-answer _ _ _ (λ e. ap moved (run-reports d (run-ok d e))));
+        after = rw (run-verdict d) (left-restored _ _ _ (λ e. run-taken d (run-ok d e)));
+      }
+
+  -- ---- preview
+
+  preview-verdict : (a : PreviewCall) → previewVerdict S M R C D (take (a .lent) (p .draft)) (a .date) ≡ ledgerPreviewCheck l lent a
+  unfolding previewVerdict ledgerPreviewCheck previewCheck
+  preview-verdict a =
+      rw (run-unready o (p .settings) (n .settings) (agrees .sound .valid) (agrees .settings) M R C D)
+      (cases (anyShort o lent)
+      (λ q. rw q)
+      (λ q. let s = enough-all q .0 .0 in rw (q, draft-short l S (p .draft) s (agrees .draft) (a .lent), s .dates-are)))
+
+  preview-ok : (a : PreviewCall) → ledgerPreviewCheck l lent a .number ≡ 0 → RunOk (a .date) × (draftShort l (a .lent) ≡ false)
+  unfolding ledgerPreviewCheck previewCheck runCheck
+  preview-ok a passed =
+      let p1 = check-passed (anyShort o lent) 0 _ passed in
+      let p18 = check-passed (draftShort l (a .lent)) 17 _ (p1 .1) in
+      ((enough-all (p1 .0), leb-false (dates o) (a .date) (check-passed (leb (dates o) (a .date)) 8 0 (p18 .1) .0)), p18 .0)
+
+  -- the store stands, and the draft shows what a run would leave
+  preview-taken : (a : PreviewCall) → ledgerPreviewCheck l lent a .number ≡ 0 →
+      Agrees whole (restored n p (withDraft (drafted (a .lent) (previewed S M R C D (a .date)) (p .draft)) (cut n p))) (afterPreview l a)
+  unfolding afterPreview restored afterRun cellAt draftShort draftLength
+  preview-taken a passed =
+      let ((((s, m, r), c, k), h), long) = preview-ok a passed in
+      record {
+        sound = record { valid = agrees .sound .valid; meters = agrees .sound .meters; few = agrees .sound .few; pictures-are = agrees .sound .pictures-are };
+        settings = rw (take-append-drop (n .settings) (p .settings)) (agrees .settings);
+        meters = rw (take-append-drop (n .meters) (p .meters)) (agrees .meters);
+        readings = rw (take-append-drop (n .readings) (p .readings)) (agrees .readings);
+        cells = rw (take-append-drop (n .cells) (p .cells)) (agrees .cells);
+        days = rw (take-append-drop (n .days) (p .days)) (agrees .days);
+        draft =
+            draft-taken o (a .lent) (previewed S M R C D (a .date)) (p .draft) (l .draft) _ (agrees .draft) (previewed-long l S M R C D (agrees .sound) s m r c k (a .date) h) (ltb-false _ _ long)
+            (run-shows l S M R C D (agrees .sound) s m r c k (a .date) h);
+        lengths = restored-lengths n p (withDraft (drafted (a .lent) (previewed S M R C D (a .date)) (p .draft)) (cut n p)) refl ∙ agrees .lengths;
+      }
+
+  preview-step : (a : PreviewCall) → Step (preview a)
+  unfolding callAnswer leaves ledgerAnswer ledgerAfter
+  preview-step a =
+      record {
+        answers = rw (preview-verdict a) (same-answer _ _ _ (λ e. ap moved (run-reports (a .date) (preview-ok a e .0))));
+        after = rw (preview-verdict a) (left-restored _ _ _ (preview-taken a));
       }
 
   -- ---- reads
@@ -430,6 +484,59 @@ module _ (whole : Lengths) (p : Parts) (l : Ledger) (agrees : Agrees whole p l) 
   unfolding callAnswer leaves ledgerAnswer ledgerAfter
   coverage-step d c = record { answers = rw (coverage-verdict d c) (same-answer _ _ _ (λ e. ap coverageIs (coverage-value d c e))); after = read-agrees }
 
+  -- ---- row
+
+  row-verdict : (a : RowCall) → rowVerdict S C (take (a .lent) (p .draft)) a ≡ ledgerRowCheck l lent a
+  unfolding rowVerdict ledgerRowCheck rowCheck readCheck
+  row-verdict a =
+      rw cells-short
+      (cases (cellsShort o lent)
+      (λ q. rw q)
+      (λ q.
+      let e = enough-cells q in
+      rw (q, draft-short l S (p .draft) (e .0) (agrees .draft) (a .lent))
+      (cases (draftShort l (a .lent))
+      (λ w. rw w)
+      (λ w.
+      rw w
+      (ap verdict
+      (range-check false (λ z. e) (a .date) (totalsInRange (categoriesOf S) (a .category)) (totalsInRange (categories o) (a .category)) (λ s. rw (s .categories-are))
+      (cond (not (not (isPublished a) || isRunAt (rowLength S) C (a .date))) 14 0)
+      (cond (not (not (isPublished a) || isRun l (a .date))) 14 0)
+      (λ f date range. rw (ran-alike (a .date) f date range))))))))
+
+  -- what an accepted row rests on
+  row-ok : (a : RowCall) → ledgerRowCheck l lent a .number ≡ 0 →
+      (CellsEnough × (draftShort l (a .lent) ≡ false)) × (a .date < dates o) × (a .category < categories o) × (isPublished a ≡ true → isRun l (a .date) ≡ true)
+  unfolding ledgerRowCheck rowCheck readCheck totalsInRange
+  row-ok a passed =
+      let p1 = check-passed (cellsShort o lent) 0 _ passed in
+      let p18 = check-passed (draftShort l (a .lent)) 17 _ (p1 .1) in
+      let (e, date, range, rest) = range-ok false (λ z. enough-cells (p1 .0)) (a .date) (ltb (a .category) (categories o)) _ (p18 .1) in
+      ((e, p18 .0), date, ltb-true (a .category) (categories o) range, λ q. rw q at (not-false (not (isPublished a) || isRun l (a .date)) (check-passed (not (not (isPublished a) || isRun l (a .date))) 13 0 rest .0)))
+
+  row-value : (a : RowCall) → ledgerRowCheck l lent a .number ≡ 0 → cellsOf (rowFor S C (take (a .lent) (p .draft)) a) ≡ rowShown l a
+  unfolding rowFor rowShown draftShort draftLength publishedStart draftStart periodsOf
+  row-value a passed =
+      let ((e, long), date, range, ran) = row-ok a passed in
+      let P = periods o in
+      let least : (a .category * P + P ≤ categories o * P) = omega (arith, suc-mul (a .category) P, mul-le-mul-right P range) in
+      let lent-long : categories o * P ≤ min (a .lent) (l .draft .room) = ltb-false _ _ long in
+      rw (e .0 .duration)
+      (cases (isPublished a)
+      (λ q. rw q (published-row l S C (e .0) (e .1) (agrees .sound) (a .date) (a .category) date range (ran q)))
+      (λ q.
+      rw q
+      (cells-of P (a .category * P) (take (a .lent) (p .draft)) _
+      (rw (length-take (a .lent) (p .draft), agrees .draft .as-long) (omega arith))
+      (λ k m.
+      ap cellOfEntry (getD-cut (a .lent) (p .draft) (a .category * P + k) (omega arith))
+      ∙ agrees .draft .shows (a .category) k range m))))
+
+  row-step : (a : RowCall) → Step (readRow a)
+  unfolding callAnswer leaves ledgerAnswer ledgerAfter
+  row-step a = record { answers = rw (row-verdict a) (same-answer _ _ _ (λ e. ap rowIs (row-value a e))); after = read-agrees }
+
   step : (c : Call) → BodyOfBytes c → Step c
   step (register a) b = registration-step a
   step (receive a) b = reception-step a b
@@ -440,6 +547,8 @@ module _ (whole : Lengths) (p : Parts) (l : Ledger) (agrees : Agrees whole p l) 
   step (searchBand a) b = band-step a
   step (fillHole a) b = fill-step a
   step (readCoverage d c) b = coverage-step d c
+  step (preview a) b = preview-step a
+  step (readRow a) b = row-step a
 
 -- ---- every list of calls
 
@@ -468,7 +577,7 @@ list-agrees items whole p l a b = simulation _ _ _ _ (Agrees whole) (λ i. BodyO
 
 -- ---- from an accepted opening on
 
-pub opened-agrees : (p : Parts) (a : Opening) → openingVerdict (p .settings) (p .meters) (p .readings) (p .cells) (p .days) a .number ≡ 0 → Agrees (lengthsOf p) (openedParts p a) (start a)
+pub opened-agrees : (p : Parts) (a : Opening) → openingVerdict (p .settings) (p .meters) (p .readings) (p .cells) (p .days) a .number ≡ 0 → Agrees (lengthsOf p) (openedParts p a) (start a (draftOf a (p .draft)))
 unfolding openedParts start openedMeters openedReadings openedCells openedDays
 opened-agrees p a e =
     let ok = open-step.opening-accepted (p .settings) (p .meters) (p .readings) (p .cells) (p .days) a e in
@@ -479,6 +588,7 @@ opened-agrees p a e =
       readings = open-step.readings-agree a (p .readings) (ok .readings-long);
       cells = open-step.cells-agree a (p .cells) (ok .cells-long);
       days = open-step.days-agree a (p .days) (ok .days-long);
+      draft = record { as-long = refl; shows = λ c k hc hk. let one : suc k - 1 ≡ k = omega arith in rw one };
       lengths =
           λ i.
           record {
@@ -492,4 +602,4 @@ opened-agrees p a e =
 
 -- Demand 3
 pub agreement : Agreement
-agreement p a items e b = list-agrees items (lengthsOf p) (openedParts p a) (start a) (opened-agrees p a e) b
+agreement p a items e b = list-agrees items (lengthsOf p) (openedParts p a) (start a (draftOf a (p .draft))) (opened-agrees p a e) b

@@ -1,21 +1,24 @@
 -- The reads answer alike.
-use Prim.Native.Nat.{ℕ, suc, _-_, _%_, _<_}
-use mathlib.Core.Path.{_≡_, refl, sym, ap}
+use Prim.Native.Nat.{ℕ, suc, _+_, _-_, _*_, _%_, _≤_, _<_}
+use mathlib.Core.Path.{_≡_, refl, sym, ap, _∙_}
 use mathlib.Core.Bool.{Bool, true, cond}
 use mathlib.Core.List.{List}
 use native.Mathlib.Omega.{arith}
+use native.Mathlib.Nat.{add-assoc, suc-mul, mul-le-mul-right}
 use borrow.Table.Steps.{cases}
 use borrow.Author.Tests.{ne-eqb}
 use lib.IntN.{pos, _-ℤ_}
-use lib.ListN.{getD}
+use lib.ListN.{length, getD}
+use Rattle.ledger.specs.Table.{tabulate}
+use Rattle.ledger.specs.Sizes.{cellsLength}
 use Rattle.ledger.specs.Net.{activeImport, activeExport, onSide, sideOf, sumOver, netOn}
 use Rattle.ledger.specs.Band.{BandCall, inBand, bandDates, bandOn}
 use Rattle.ledger.specs.Fill.{ShapeOf, ofCategory, ofOptedOut, isOptedOutShape, shapeCategory, FillCall, weightBy, mayFill}
 use Rattle.ledger.specs.Checks.{NetCall, mayNet}
 use Rattle.ledger.specs.Ledger.{categories, dates, periods, category, dayType, Ledger, cellBy, cellAt, isPicture, isRun, totalsAt, sideAt, netAt, bandAt, shapeAt, weightAt, fillAt, coverageAt}
-use Rattle.ledger.specs.Store.{datesOf, periodsOf, rowLength, categoryOf, dayTypeOf, cellIndex, isRunAt, totRow, offRow, dayIndex, dayEntryOf, dayEntriesOf, isRunDay}
-use Rattle.ledger.specs.Calls.{rowAt, cellFor, datesSum, entriesAt, totalsFor, sideFor, weekFor, netOfSides, netFor, bandFor, shapeFor, weightFor, fillFor, coverageFor}
-use Rattle.ledger.specs.Engine.{Every}
+use Rattle.ledger.specs.Store.{datesOf, periodsOf, rowLength, categoryOf, dayTypeOf, cellOfEntry, cellIndex, isRunAt, totRow, offRow, dayIndex, dayEntryOf, dayEntriesOf, isRunDay}
+use Rattle.ledger.specs.Calls.{rowAt, cellFor, datesSum, entriesAt, totalsFor, sideFor, weekFor, netOfSides, netFor, bandFor, shapeFor, weightFor, fillFor, coverageFor, stretch}
+use Rattle.ledger.specs.Engine.{cellsOf, Every}
 use Rattle.ledger.proofs.Lists.{sumBelow-cong, tabulate-ext}
 use Rattle.ledger.proofs.Days.{over, day-not-zero, recounted}
 use Rattle.ledger.proofs.Totals.{dates-sum, totals-kept}
@@ -24,6 +27,7 @@ use Rattle.ledger.proofs.Nets.{sumOver-cong, period-cong, tot-cong, mar
 use Rattle.ledger.proofs.NetDemands.{net-of-totals}
 use Rattle.ledger.proofs.Fills.{filled-cong}
 use Rattle.ledger.proofs.Relation.{SettingsAgree, CellsAgree, dayBy, DaysAgree, Sound}
+use Rattle.ledger.proofs.Drafts.{cells-of}
 use Rattle.ledger.proofs.Runs.{valid-periods, ran-is, value-small, entry-is}
 
 -- ---- the store's cells are the ledger's
@@ -41,6 +45,20 @@ module _ (l : Ledger) (s cells : List ℕ) (agree : SettingsAgree (l .opening) s
     where
       pred-suc : (k : ℕ) → suc k - 1 ≡ k
       pred-suc k = omega arith
+
+  -- a category's row of a run date
+  pub published-row : (d c : ℕ) → d < dates (l .opening) → c < categories (l .opening) → isRun l d ≡ true →
+      cellsOf (stretch (periods (l .opening)) (d * rowLength s + c * periods (l .opening)) cells) ≡ tabulate (periods (l .opening)) (λ k. cellAt l d c (suc k))
+  unfolding rowAt isRun cellAt
+  published-row d c hd hc r =
+      let P = periods (l .opening) in
+      let n = categories (l .opening) * P in
+      let is : rowLength s ≡ n = (unfold rowLength periodsOf in rw (agree .categories-are, agree .duration)) in
+      rw is
+      (cells-of P (d * n + c * P) cells _
+      (let long : dates (l .opening) * n ≤ length cells = (unfold cellsLength in cellsAgree .long) in
+      omega (arith, suc-mul c P, mul-le-mul-right P hc, suc-mul d n, mul-le-mul-right n hd))
+      (λ k m. ap (λ (i : ℕ). cellOfEntry (getD cells i 0)) (add-assoc (d * n) (c * P) k) ∙ entry-is (l .opening) s cells agree (l .pictures) (sound .valid) (sound .pictures-are) cellsAgree d c k hd hc m r))
 
   -- the settings have the opening's categories, so the same ones stand on each side of a net
   side-same : (allGroups : Bool) (quantity c : ℕ) → c < categories (l .opening) →

@@ -59,7 +59,7 @@ module _ (o : Opening) (n : Lengths) where
     λ h. rw (le-ltb _ _ (h .0), le-ltb _ _ (h .1), le-ltb _ _ (h .2)),
   )
 
-  cells-iff : (cellsShort o n ≡ false) ↔ CellsLong o n
+  pub cells-iff : (cellsShort o n ≡ false) ↔ CellsLong o n
   unfolding cellsShort settingsShort
   cells-iff = (λ e. let q = neither _ _ e in (ltb-false _ _ (q .0), ltb-false _ _ (q .1)), λ h. rw (le-ltb _ _ (h .0), le-ltb _ _ (h .1)))
 
@@ -82,7 +82,7 @@ module _ (o : Opening) (n : Lengths) where
     λ h. rw (days-iff .1 (h .0), lists-iff x y .1 (h .1, h .2, h .3)),
   )
 
-  any-iff : (anyShort o n ≡ false) ↔ AllLong o n
+  pub any-iff : (anyShort o n ≡ false) ↔ AllLong o n
   unfolding anyShort
   any-iff = (
     λ e. let p = neither _ _ e in let q = neither _ _ (p .0) in (meters-iff .0 (q .0), ltb-false _ _ (q .1), ltb-false _ _ (p .1)),

@@ -8,13 +8,16 @@ use native.Mathlib.Omega.{arith}
 use lib.Dec.{eqb, leb, ltb}
 use lib.ListN.{length}
 use borrow.Table.Steps.{cases}
-use borrow.Author.Tests.{eqb-true, eqb-false, leb-true, leb-false, ltb-true, not-false}
+use borrow.Author.Tests.{eqb-true, eqb-false, leb-true, leb-false, ltb-true, ltb-false, not-false}
 use Rattle.metering.specs.Mpan.{mpanValid}
 use Rattle.metering.specs.Range.{between}
 use Rattle.metering.specs.Laws.{between-true}
 use Rattle.metering.specs.Calendar.{periodEnding}
 use Rattle.ledger.specs.Method.{Category}
-use Rattle.ledger.specs.Checks.{Verdict, verdict, firstNumber, Registration, ReceptionCall, callNumber, fieldsNumber, notAfterLast, knownNumber, endMinute, quality, wattHoursAt, contentNumber, recordNumberIf, isSenderOf, headerNumber}
+use Rattle.ledger.specs.Checks.{Verdict, verdict, firstNumber, Registration, ReceptionCall, callNumber, fieldsNumber, notAfterLast, knownNumber, endMinute, quality, wattHoursAt, contentNumber, recordNumberIf, isSenderOf, headerNumber, runCheck, previewCheck}
+use Rattle.ledger.specs.Ready.{both}
+use Rattle.ledger.specs.Store.{datesOf, rowLength, settingsReady, metersReady, readingsReady, cellsReady, daysReady}
+use Rattle.ledger.specs.Calls.{runUnready, runVerdict, draftUnready, previewVerdict}
 
 pub neither : (a b : Bool) → (a || b) ≡ false → (a ≡ false) × (b ≡ false)
 neither true b e = absurd (true≢false e)
@@ -126,3 +129,37 @@ record-passed again duration status limit body i e =
       once = p1006 .0;
       content = p1006 .1;
     }
+
+-- ---- run and preview
+
+pub parts-ready : (s m r cells days : List ℕ) → runUnready s m r cells days ≡ false →
+    (settingsReady s ≡ true) × (metersReady s m ≡ true) × (readingsReady s r ≡ true) × (cellsReady s cells ≡ true) × (daysReady s days ≡ true)
+unfolding runUnready
+parts-ready s m r cells days h =
+    let t = both (settingsReady s && metersReady s m && readingsReady s r && cellsReady s cells) (daysReady s days) (not-false _ h) in
+    let p = both (settingsReady s && metersReady s m && readingsReady s r) (cellsReady s cells) (t .0) in
+    let q = both (settingsReady s && metersReady s m) (readingsReady s r) (p .0) in
+    let o = both (settingsReady s) (metersReady s m) (q .0) in
+    (o .0, o .1, q .1, p .1, t .1)
+
+-- all parts are ready, and the date is one
+abbrev pub MayRun : List ℕ → List ℕ → List ℕ → List ℕ → List ℕ → ℕ → Type 0
+MayRun s m r cells days date =
+    (settingsReady s ≡ true) × (metersReady s m ≡ true) × (readingsReady s r ≡ true) × (cellsReady s cells ≡ true) × (daysReady s days ≡ true) × (date < datesOf s)
+
+pub accepted-run : (s m r cells days : List ℕ) (date : ℕ) → runVerdict s m r cells days date .number ≡ 0 → MayRun s m r cells days date
+unfolding runVerdict runCheck
+accepted-run s m r cells days date h =
+    let p1 = check-passed (runUnready s m r cells days) 0 _ h in
+    let parts = parts-ready s m r cells days (p1 .0) in
+    (parts .0, parts .1, parts .2, parts .3, parts .4, leb-false _ _ (check-passed (leb (datesOf s) date) 8 0 (p1 .1) .0))
+
+-- a draft that is long enough is no other check, so an accepted preview is that of a run that would be
+pub accepted-preview : (s m r cells days draft : List ℕ) (date : ℕ) → previewVerdict s m r cells days draft date .number ≡ 0 →
+    MayRun s m r cells days date × (rowLength s ≤ length draft)
+unfolding previewVerdict previewCheck runCheck draftUnready
+accepted-preview s m r cells days draft date h =
+    let p1 = check-passed (runUnready s m r cells days) 0 _ h in
+    let p18 = check-passed (ltb (length draft) (rowLength s)) 17 _ (p1 .1) in
+    let parts = parts-ready s m r cells days (p1 .0) in
+    ((parts .0, parts .1, parts .2, parts .3, parts .4, leb-false _ _ (check-passed (leb (datesOf s) date) 8 0 (p18 .1) .0)), ltb-false _ _ (p18 .0))

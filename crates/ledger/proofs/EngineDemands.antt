@@ -1,5 +1,5 @@
 -- Demand 2 on the engine: by agreement the store's answers are the ledger's, of which it is proved.
-use Prim.Native.Nat.{ℕ, _≤_, _<_}
+use Prim.Native.Nat.{ℕ, _*_, _≤_, _<_}
 use mathlib.Core.Path.{_≡_, refl, sym, ap, _∙_}
 use mathlib.Core.Logic.{⊎-elim}
 use mathlib.Core.Bool.{Bool, true, false, _&&_, and-eq-true-iff}
@@ -17,14 +17,14 @@ use Rattle.ledger.specs.Method.{freshIn, cellFrom, latest, cellOf, cellO
 use Rattle.ledger.specs.Fill.{FillCall}
 use Rattle.ledger.specs.Checks.{Verdict, firstFailed, anyBelow, orElse, recordAt, sameKey, categoryNumber, dayTypeNumber, sizesValid, openingCheck, runCheck, readCheck, cellInRange}
 use Rattle.ledger.specs.Sizes.{settingsLength, metersLength, readingsLength, cellsLength, daysLength}
-use Rattle.ledger.specs.Ledger.{Opening, categories, dates, periods, category, dayType, Ledger, start, Call, register, receive, run, readTotals, readCell, readNet, searchBand, fillHole, readCoverage, Answer, moved, cellIs, answer, left, Lengths, leastLengths, settingsShort, metersShort, cellsShort, anyShort, afterRegistration, afterReception, pictureOf, afterRun, movedBetween, cellBy, cellAt, dayOf, isPicture, isRun, ledgerRegistrationCheck, ledgerReceptionCheck, ledgerRunCheck, ledgerCellCheck, ledgerAnswer, ledgerAfter}
+use Rattle.ledger.specs.Ledger.{Opening, categories, dates, periods, category, dayType, Ledger, start, Call, register, receive, run, readTotals, readCell, readNet, searchBand, fillHole, readCoverage, preview, readRow, Answer, moved, cellIs, answer, left, Lengths, leastLengths, settingsShort, metersShort, cellsShort, anyShort, afterRegistration, afterReception, pictureOf, afterRun, movedBetween, cellBy, cellAt, dayOf, isPicture, isRun, ledgerRunCheck, ledgerCellCheck, afterPreview, ledgerAnswer, ledgerAfter}
 use Rattle.ledger.specs.Calls.{openingVerdict}
-use Rattle.ledger.specs.Engine.{Parts, openedParts, Item, answersFrom, storeAnswers, cutLengths, ledgerAnswers, lengthsOf, BodyOfBytes, BodiesOfBytes, Every}
-use Rattle.ledger.specs.Demands.{ledgerAfterItems, ledgerBeside, LastAnswer, Accepts, EngineReceivesExactly, EngineRuns, Spares, EngineReadsMethod, shapeValue, Shared, Fills, EngineFills, EngineCovers, EngineShowsSums}
-use Rattle.ledger.specs.Marked.{exampleOpening, exampleCalls, exampleAnswers, netOpening, netCalls, netAnswers, bandOpening, bandCalls, bandAnswers, fillOpening, fillCalls, fillAnswers, coverageOpening, coverageCalls, coverageAnswers, senderOpening, senderCalls, senderAnswers, remainderOpening, remainderCalls, remainderAnswers, ledgerRun, worked-examples, lentLeast, EngineAnswers, WorkedOnEngine}
+use Rattle.ledger.specs.Engine.{Parts, openedParts, Item, answersFrom, storeAnswers, cutLengths, ledgerAnswers, lengthsOf, BodyOfBytes, BodiesOfBytes, Every, draftOf}
+use Rattle.ledger.specs.Demands.{ledgerAfterItems, ledgerBeside, LastAnswer, Accepts, EngineReceivesExactly, EngineRuns, Spares, EngineReadsMethod, shapeValue, Shared, Fills, EngineFills, EngineCovers, EngineShowsSums, EngineForetells}
+use Rattle.ledger.specs.Marked.{exampleOpening, exampleCalls, exampleAnswers, netOpening, netCalls, netAnswers, bandOpening, bandCalls, bandAnswers, fillOpening, fillCalls, fillAnswers, coverageOpening, coverageCalls, coverageAnswers, senderOpening, senderCalls, senderAnswers, remainderOpening, remainderCalls, remainderAnswers, previewOpening, previewCalls, previewAnswers, exampleDraft, ledgerRun, worked-examples, lentLeast, EngineAnswers, WorkedOnEngine}
 use Rattle.ledger.proofs.Choices.{check-passed}
 use Rattle.ledger.proofs.FirstFailed.{answered}
-use Rattle.ledger.proofs.Verdicts.{left-none, left-of}
+use Rattle.ledger.proofs.Verdicts.{left-none}
 use Rattle.ledger.proofs.Chosen.{every-append}
 use Rattle.ledger.proofs.Open.{opening-accepted}
 use Rattle.ledger.proofs.Bytes.{allBytes, are-bytes}
@@ -33,6 +33,7 @@ use Rattle.ledger.proofs.Demands.{at-same, at-other, latest-alike, run-
 use Rattle.ledger.proofs.CallDemands.{reception-exact}
 use Rattle.ledger.proofs.FillDemands.{fill-shares}
 use Rattle.ledger.proofs.CoverageDemands.{coverage-covers}
+use Rattle.ledger.proofs.PreviewDemands.{preview-is-run}
 
 -- ---- the last answer
 
@@ -53,7 +54,7 @@ module _ (p : Parts) (a : Opening) (accepts : Accepts p a) (items : List Item) (
   store-last : (i : Item) → BodyOfBytes (i .call) → LastAnswer (openedParts p a) items i (ledgerAnswer (ledgerBeside p a items) (cutLengths (i .lent) (lengthsOf p)) (i .call))
   store-last i b =
       agreement p a (items ++ (i ∷ [])) accepts (every-append _ items (i ∷ []) bodies (b, tt))
-      ∙ ledger-last (start a) (lengthsOf p) items i
+      ∙ ledger-last (start a (draftOf a (p .draft))) (lengthsOf p) items i
       ∙ ap (λ ys. ys ++ (ledgerAnswer (ledgerBeside p a items) (cutLengths (i .lent) (lengthsOf p)) (i .call) ∷ [])) (sym (agreement p a items accepts bodies))
 
   store-answers : (i : Item) (x : Answer) → BodyOfBytes (i .call) → ledgerAnswer (ledgerBeside p a items) (cutLengths (i .lent) (lengthsOf p)) (i .call) ≡ x → LastAnswer (openedParts p a) items i x
@@ -64,37 +65,49 @@ module _ (p : Parts) (a : Opening) (accepts : Accepts p a) (items : List Item) (
 
 -- ---- what calls leave alone
 
-left-same : {A : Type 0} (v : Verdict) (x : A) → left v x x ≡ x
-unfolding left
-left-same v x = cases (eqb (v .number) 0) (λ q. rw q) (λ q. rw q)
+-- the opening, how long the draft is, and the pictures of dates that a call does not run
+record Kept (l after : Ledger) (c : Call) : Type 0 where
+  opening-is : after .opening ≡ l .opening
+  room-is : after .draft .room ≡ l .draft .room
+  pictures-are : (x : ℕ) → (c ≡ run x → ⊥) → after .pictures x ≡ l .pictures x
 
--- the opening, and the pictures of dates that a call does not run
-kept : (l : Ledger) (n : Lengths) (c : Call) → (ledgerAfter l n c .opening ≡ l .opening) × ((x : ℕ) → (c ≡ run x → ⊥) → ledgerAfter l n c .pictures x ≡ l .pictures x)
-unfolding ledgerAfter afterRegistration afterReception afterRun
-kept l n (register a) =
-    let v = ledgerRegistrationCheck l n a in
-    (left-of (λ m. m .opening) v l _ ∙ left-same v _, λ x other. left-of (λ m. m .pictures x) v l _ ∙ left-same v _)
-kept l n (receive a) =
-    let v = ledgerReceptionCheck l n a in
-    (left-of (λ m. m .opening) v l _ ∙ left-same v _, λ x other. left-of (λ m. m .pictures x) v l _ ∙ left-same v _)
+nothing-changed : (l : Ledger) (c : Call) → Kept l l c
+nothing-changed l c = record { opening-is = refl; room-is = refl; pictures-are = λ x other. refl }
+
+-- a refused call changes nothing
+left-kept : (v : Verdict) (l after : Ledger) (c : Call) → Kept l after c → Kept l (left v l after) c
+unfolding left
+left-kept v l after c taken = cases (eqb (v .number) 0) (λ q. rw q taken) (λ q. rw q (nothing-changed l c))
+
+kept : (l : Ledger) (n : Lengths) (c : Call) → Kept l (ledgerAfter l n c) c
+unfolding ledgerAfter afterRegistration afterReception afterRun afterPreview
+kept l n (register a) = left-kept _ l _ _ (record { opening-is = refl; room-is = refl; pictures-are = λ x other. refl })
+kept l n (receive a) = left-kept _ l _ _ (record { opening-is = refl; room-is = refl; pictures-are = λ x other. refl })
 kept l n (run d) =
-    let v = ledgerRunCheck l n d in (
-      left-of (λ m. m .opening) v l _ ∙ left-same v _,
-      λ x other.
-          left-of (λ m. m .pictures x) v l _
-          ∙ rw (at-other d (some (pictureOf d (l .known))) (l .pictures) x (λ e. other (ap run (sym e)))) (left-same v _),
-    )
-kept l n (readTotals d c) = (refl, λ x other. refl)
-kept l n (readCell d c j) = (refl, λ x other. refl)
-kept l n (readNet a) = (refl, λ x other. refl)
-kept l n (searchBand a) = (refl, λ x other. refl)
-kept l n (fillHole a) = (refl, λ x other. refl)
-kept l n (readCoverage d c) = (refl, λ x other. refl)
+    left-kept _ l _ _
+    (record {
+      opening-is = refl;
+      room-is = refl;
+      pictures-are = λ x other. at-other d (some (pictureOf d (l .known))) (l .pictures) x (λ e. other (ap run (sym e)));
+    })
+kept l n (readTotals d c) = nothing-changed l (readTotals d c)
+kept l n (readCell d c j) = nothing-changed l (readCell d c j)
+kept l n (readNet a) = nothing-changed l (readNet a)
+kept l n (searchBand a) = nothing-changed l (searchBand a)
+kept l n (fillHole a) = nothing-changed l (fillHole a)
+kept l n (readCoverage d c) = nothing-changed l (readCoverage d c)
+kept l n (preview a) = left-kept _ l _ _ (record { opening-is = refl; room-is = refl; pictures-are = λ x other. refl })
+kept l n (readRow a) = nothing-changed l (readRow a)
 
 opening-stays : (l : Ledger) (whole : Lengths) (items : List Item) → ledgerAfterItems l whole items .opening ≡ l .opening
 unfolding ledgerAfterItems
 opening-stays l whole [] = refl
-opening-stays l whole (i ∷ is) = opening-stays (ledgerAfter l (cutLengths (i .lent) whole) (i .call)) whole is ∙ kept l (cutLengths (i .lent) whole) (i .call) .0
+opening-stays l whole (i ∷ is) = opening-stays (ledgerAfter l (cutLengths (i .lent) whole) (i .call)) whole is ∙ kept l (cutLengths (i .lent) whole) (i .call) .opening-is
+
+room-stays : (l : Ledger) (whole : Lengths) (items : List Item) → ledgerAfterItems l whole items .draft .room ≡ l .draft .room
+unfolding ledgerAfterItems
+room-stays l whole [] = refl
+room-stays l whole (i ∷ is) = room-stays (ledgerAfter l (cutLengths (i .lent) whole) (i .call)) whole is ∙ kept l (cutLengths (i .lent) whole) (i .call) .room-is
 
 pictures-stay : (a : Opening) (d : ℕ) (l : Ledger) (whole : Lengths) (items : List Item) → Every (Spares a d) items → (x : ℕ) → x ≤ d → dayType a x ≡ dayType a d →
     ledgerAfterItems l whole items .pictures x ≡ l .pictures x
@@ -102,7 +115,7 @@ unfolding ledgerAfterItems
 pictures-stay a d l whole [] spares x h t = refl
 pictures-stay a d l whole (i ∷ is) spares x h t =
     pictures-stay a d (ledgerAfter l (cutLengths (i .lent) whole) (i .call)) whole is (spares .1) x h t
-    ∙ kept l (cutLengths (i .lent) whole) (i .call) .1 x (λ e. spares .0 x e h t)
+    ∙ kept l (cutLengths (i .lent) whole) (i .call) .pictures-are x (λ e. spares .0 x e h t)
 
 -- then the date's cells stand too
 cell-stays : (l m : Ledger) (d c j : ℕ) → m .opening ≡ l .opening → ((x : ℕ) → x ≤ d → dayType (l .opening) x ≡ dayType (l .opening) d → m .pictures x ≡ l .pictures x) →
@@ -123,7 +136,7 @@ unfolding ledgerAfterItems
 after-first l whole i is first e = rw e
 
 opening-beside : (p : Parts) (a : Opening) (items : List Item) → ledgerBeside p a items .opening ≡ a
-opening-beside p a items = opening-stays (start a) (lengthsOf p) items ∙ (unfold start in refl)
+opening-beside p a items = opening-stays (start a (draftOf a (p .draft))) (lengthsOf p) items ∙ (unfold start in refl)
 
 -- ---- receptions
 
@@ -190,7 +203,7 @@ engine-reads-method p a before after n m d c j moves e b b′ ran spares long hc
     let taken = run-taken l (cutLengths n whole) d moves (store-answered p a e before b i _ tt ran) in
     let first = afterRun l d in
     let last = ledgerBeside p a (before ++ (i ∷ after)) in
-    let is : last ≡ ledgerAfterItems first whole after = after-append (start a) whole before (i ∷ after) ∙ after-first l whole i after first (taken .1) in
+    let is : last ≡ ledgerAfterItems first whole after = after-append (start a (draftOf a (p .draft))) whole before (i ∷ after) ∙ after-first l whole i after first (taken .1) in
     let o′ : last .opening ≡ a = opening-beside p a (before ++ (i ∷ after)) in
     let o″ : first .opening ≡ a = run-opening a l o d in
     let same : (x : ℕ) → x ≤ d → dayType a x ≡ dayType a d → last .pictures x ≡ first .pictures x = λ x h t. rw is (pictures-stay a d first whole after spares x h t) in
@@ -227,6 +240,30 @@ pub engine-shows-sums : EngineShowsSums
 engine-shows-sums p a items n d c j given e b heard =
     read-shows (ledgerBeside p a items) (cutLengths n (lengthsOf p)) d c j given
     (store-answered p a e items b (record { lent = n; call = readCell d c j }) _ tt heard)
+
+-- ---- previews
+
+-- the ledger beside one call more
+one-more : (p : Parts) (a : Opening) (items : List Item) (i : Item) →
+    ledgerBeside p a (items ++ (i ∷ [])) ≡ ledgerAfter (ledgerBeside p a items) (cutLengths (i .lent) (lengthsOf p)) (i .call)
+one-more p a items i =
+    after-append (start a (draftOf a (p .draft))) (lengthsOf p) items (i ∷ [])
+    ∙ after-first (ledgerBeside p a items) (lengthsOf p) i [] _ refl
+    ∙ (unfold ledgerAfterItems in refl)
+
+pub engine-foretells : EngineForetells
+engine-foretells p a items n r e b lent room =
+    let previews : Item = record { lent = n; call = preview r } in
+    let l = ledgerBeside p a items in
+    let o = opening-beside p a items in
+    let long : categories (l .opening) * periods (l .opening) ≤ l .draft .room =
+    rw (o, room-stays (start a (draftOf a (p .draft))) (lengthsOf p) items) (unfold start in room) in
+    let same = preview-is-run l (cutLengths n (lengthsOf p)) r (rw o lent, long) in (
+      ledgerAnswer l (cutLengths n (lengthsOf p)) (preview r),
+      store-last p a e items b previews tt,
+      store-answers p a e (items ++ (previews ∷ [])) (every-append _ items (previews ∷ []) b (tt, tt)) (record { lent = n; call = run (r .date) }) _ tt
+          (rw (one-more p a items previews) (same .1)),
+    )
 
 -- ---- the worked examples
 
@@ -269,6 +306,8 @@ bodyOf (readNet a) = []
 bodyOf (searchBand a) = []
 bodyOf (fillHole a) = []
 bodyOf (readCoverage d c) = []
+bodyOf (preview a) = []
+bodyOf (readRow a) = []
 
 body-bytes : (c : Call) → allBytes (bodyOf c) ≡ true → BodyOfBytes c
 body-bytes (register a) e = tt
@@ -280,6 +319,8 @@ body-bytes (readNet a) e = tt
 body-bytes (searchBand a) e = tt
 body-bytes (fillHole a) e = tt
 body-bytes (readCoverage d c) e = tt
+body-bytes (preview a) e = tt
+body-bytes (readRow a) e = tt
 
 abbrev bodiesBytes : List Call → Bool
 bodiesBytes [] = true
@@ -292,13 +333,13 @@ bodies-bytes n (c ∷ cs) e =
 
 -- an opening that is accepted in parts long enough, and calls whose bodies are bytes
 engine-answers : (a : Opening) (calls : List Call) (answers : List Answer) → openingCheck a false .number ≡ 0 → bodiesBytes calls ≡ true →
-    ledgerRun (start a) (leastLengths a) calls ≡ answers → EngineAnswers a calls answers
+    ledgerRun (start a (draftOf a exampleDraft)) (leastLengths a) calls ≡ answers → EngineAnswers a calls answers
 unfolding openingVerdict
-engine-answers a calls answers opens bodies runs p e =
+engine-answers a calls answers opens bodies runs p e draft =
     let accepts : openingCheck a (anyShort a (lengthsOf p)) .number ≡ 0 = rw (e, least-long a) opens in (
       accepts,
       agreement p a (lentLeast a calls) accepts (bodies-bytes (leastLengths a) calls bodies)
-          ∙ rw e (run-of (start a) (leastLengths a) calls ∙ runs),
+          ∙ rw (e, draft) (run-of (start a (draftOf a exampleDraft)) (leastLengths a) calls ∙ runs),
     )
 
 pub worked-on-engine : WorkedOnEngine
@@ -311,4 +352,5 @@ worked-on-engine = (
   engine-answers coverageOpening coverageCalls coverageAnswers refl refl (worked-examples .4),
   engine-answers senderOpening senderCalls senderAnswers refl refl (worked-examples .5),
   engine-answers remainderOpening remainderCalls remainderAnswers refl refl (worked-examples .6),
+  engine-answers previewOpening previewCalls previewAnswers refl refl (worked-examples .7),
 )

@@ -10,7 +10,7 @@ use lib.Dec.{eqb}
 use borrow.Table.Steps.{cases}
 use borrow.Author.Tests.{eqb-true, eqb-false}
 use Rattle.ledger.specs.Checks.{Verdict, firstFailed, orElse, firstNumber}
-use Rattle.ledger.specs.Ledger.{Answer, refused, accepted, moved, totalsAre, cellIs, netIs, bandIs, filledAre, coverageIs, answer}
+use Rattle.ledger.specs.Ledger.{Answer, refused, accepted, moved, totalsAre, cellIs, netIs, bandIs, filledAre, coverageIs, rowIs, answer}
 use Rattle.ledger.specs.Demands.{Row, rowOf, eachBelow, AllHold, FirstFails, GoesBy, FirstBad}
 use Rattle.ledger.proofs.Verdicts.{answer-none, answer-some}
 
@@ -194,6 +194,7 @@ isRefusal (netIs n) = false
 isRefusal (bandIs b) = false
 isRefusal (filledAre v) = false
 isRefusal (coverageIs c) = false
+isRefusal (rowIs r) = false
 
 -- an answer that is no refusal is what was to be given
 pub answered : (v : Verdict) (given heard : Answer) → isRefusal heard ≡ false → answer v given ≡ heard → (v .number ≡ 0) × (given ≡ heard)

@@ -23,6 +23,7 @@ pub mod Chosen
 pub mod Nets
 pub mod Fills
 pub mod Answers
+mod Drafts
 pub mod Parts
 pub mod Bytes
 pub mod Agreement
@@ -35,5 +36,6 @@ pub mod BandDemands
 pub mod FillDemands
 pub mod FigureDemands
 pub mod CoverageDemands
+pub mod PreviewDemands
 pub mod SizeDemands
 pub mod EngineDemands

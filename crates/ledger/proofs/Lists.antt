@@ -3,17 +3,17 @@ use Prim.Native.Nat.{ℕ, zero, suc, _+_, _-_, _*_, _/_, _≤_, _<_}
 use mathlib.Core.Path.{_≡_, refl, sym, ap, _∙_}
 use mathlib.Core.Logic.{_≢_, ⊎-elim}
 use mathlib.Core.Bool.{Bool, true, false, cond}
-use mathlib.Core.List.{List, [], _∷_, _++_, append-assoc}
+use mathlib.Core.List.{List, [], _∷_, _++_, append-assoc, map, map-append}
 use native.Mathlib.Omega.{arith}
 use native.Mathlib.Numerals.{add-one}
 use native.Mathlib.Nat.{zero-add, add-zero, add-suc, suc-add, add-mul, suc-mul, zero-mul, eq-or-lt-of-le, le-of-suc-le-suc, not-suc-le-zero, mul-le-mul-right}
 use lib.ListN.{length, getD, take, drop, set, length-append, length-drop, List·getD-append, length-set}
-use lib.Seq.{sets, set-at, drop-cons, getD-set-same, getD-set-other, getD-at, getD-take, take-suc, take-at, length-take-le}
+use lib.Seq.{sets, set-at, drop-cons, getD-set-same, getD-set-other, getD-at, getD-take, getD-drop, ext-getD, take-suc, take-at, length-take-le}
 use lib.Arith.{digits-div}
 use lib.Dec.{eqb}
 use borrow.Author.Tests.{eq-eqb, ne-eqb}
 use Rattle.metering.specs.Sum.{sumBelow, sumBelow-suc, sumBelow-le}
-use Rattle.ledger.specs.Calls.{overwritten}
+use Rattle.ledger.specs.Calls.{stretch, overwritten}
 use Rattle.ledger.specs.Table.{tabulate, filling}
 
 -- what holds below n and at n holds below suc n
@@ -114,6 +114,11 @@ tabulate-at (suc n) f d k h =
 
 pub getD-tabulate : (n : ℕ) (f : ℕ → ℕ) (k : ℕ) → k < n → getD (tabulate n f) k 0 ≡ f k
 getD-tabulate n f k h = tabulate-at n f 0 k h
+
+pub map-tabulate : {A B : Type 0} (n : ℕ) (f : A → B) (g : ℕ → A) → tabulate n (λ k. f (g k)) ≡ map f (tabulate n g)
+unfolding tabulate
+map-tabulate zero f g = refl
+map-tabulate (suc n) f g = rw (map-tabulate n f g) (sym (map-append f (tabulate n g) (g n ∷ [])))
 
 -- ---- sums
 
@@ -218,6 +223,18 @@ block-other s q j r k other hj hk e = other (sym (digits-div q hj) ∙ ap (λ (x
 pub block-below : (s T q j : ℕ) → q < T → j < s → q * s + j < T * s
 block-below s T q j hq hj = omega (arith, mul-le-mul-right s hq)
 
+-- ---- the front of a list filled from another
+
+module _ {A : Type 0} (d : A) where
+  tabulate-front : (n : ℕ) (xs : List A) → n ≤ length xs → tabulate n (λ k. getD xs k d) ≡ take n xs
+  unfolding tabulate
+  tabulate-front zero xs h = refl
+  tabulate-front (suc n) xs h = rw (tabulate-front n xs (omega arith), take-suc xs n d h)
+
+  pub front-filled : (n k : ℕ) (xs lent list : List A) → list ≡ filling k (λ i. getD xs i d) lent → k ≡ n → n ≤ length xs → list ≡ overwritten (take n xs) lent
+  unfolding filling overwritten
+  front-filled n k xs lent list so is h = so ∙ rw (is, tabulate-front n xs h, length-take-le n xs h)
+
 -- ---- cut and put back
 
 pub getD-cut : (n : ℕ) (xs : List ℕ) (i : ℕ) → i < n → getD (take n xs) i 0 ≡ getD xs i 0
@@ -231,6 +248,17 @@ getD-back n xs ys i h = List·getD-append ys (drop n xs) 0 i h
 
 pub part-length : {A : Type 0} (xs : List A) (at n : ℕ) → at + n ≤ length xs → length (take n (drop at xs)) ≡ n
 part-length xs at n h = length-take-le n (drop at xs) (rw length-drop (omega arith))
+
+pub part-at : (xs : List ℕ) (at n p : ℕ) → p < n → getD (take n (drop at xs)) p 0 ≡ getD xs (at + p) 0
+part-at xs at n p l = getD-take n (drop at xs) p 0 l ∙ getD-drop at xs p 0
+
+pub stretch-is : (n first : ℕ) (xs : List ℕ) (f : ℕ → ℕ) → first + n ≤ length xs → ((k : ℕ) → k < n → getD xs (first + k) 0 ≡ f k) →
+    stretch n first xs ≡ tabulate n f
+unfolding stretch
+stretch-is n first xs f fits same =
+    let long = part-length xs first n fits in
+    ext-getD 0 (take n (drop first xs)) (tabulate n f) (long ∙ sym (length-tabulate n f))
+    (λ k l. let h : k < n = rw long at l in part-at xs first n k h ∙ same k h ∙ sym (getD-tabulate n f k h))
 
 -- ---- sums that are alike but for one term
 

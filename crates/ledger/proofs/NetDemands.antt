@@ -3,7 +3,7 @@ use Prim.Native.Nat.{ℕ, zero, suc, _≤_, _<_}
 use mathlib.Core.Path.{_≡_, refl, sym, ap, ap₂, _∙_}
 use mathlib.Core.Logic.{_≢_, _↔_}
 use mathlib.Core.Bool.{Bool, true, false, not, _||_, cond, and-eq-true-iff, or-true, true≢false}
-use mathlib.Core.List.{List, [], _∷_, _++_, map, map-append}
+use mathlib.Core.List.{List, [], _∷_, _++_}
 use native.Mathlib.Omega.{arith}
 use native.Mathlib.Nat.{add-zero}
 use lib.Dec.{eqb}
@@ -21,7 +21,7 @@ use Rattle.ledger.specs.Engine.{Every}
 use Rattle.ledger.specs.Demands.{SameKey, SameFamily, OnSide, SideExact, Paired, NetExact, OwnGroupPair, signedTotal, NetTotIsSum, NetOfTotals, OwnGroupNetOfTotals, MarkExact, NothingNetsToZero, SidesExchanged}
 use Rattle.ledger.proofs.FirstFailed.{finds-none, finds-row, goes-by}
 use Rattle.ledger.proofs.CallDemands.{not-iff, date-iff, below-iff, net-lists-iff, ran-iff, keys-differ, family-iff}
-use Rattle.ledger.proofs.Lists.{tabulate-at, getD-tabulate, tabulate-ext}
+use Rattle.ledger.proofs.Lists.{tabulate-at, getD-tabulate, tabulate-ext, map-tabulate}
 use Rattle.ledger.proofs.Chosen.{chosen-pass, chosen-none}
 use Rattle.ledger.proofs.Nets.{sumOver-append, sumOver-one, anyOf-append, tot-minus, tot7-minus, period-swapped, tot-swapped, tot7-swapped, mark-swapped}
 
@@ -92,11 +92,6 @@ net-of-totals l a = (
 )
 
 -- ---- the two lists exchanged
-
-map-tabulate : (n : ℕ) (f : ℤ → ℤ) (g : ℕ → ℤ) → tabulate n (λ k. f (g k)) ≡ map f (tabulate n g)
-unfolding tabulate
-map-tabulate zero f g = refl
-map-tabulate (suc n) f g = rw (map-tabulate n f g) (sym (map-append f (tabulate n g) (g n ∷ [])))
 
 pub sides-exchanged : SidesExchanged
 unfolding netOn

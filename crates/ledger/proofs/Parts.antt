@@ -118,6 +118,7 @@ restored-cut n p =
       readings = take-append-drop (n .readings) (p .readings) i;
       cells = take-append-drop (n .cells) (p .cells) i;
       days = take-append-drop (n .days) (p .days) i;
+      draft = p .draft;
     }
 
 pub restored-lengths : (n : Lengths) (p q : Parts) → lengthsOf q ≡ lengthsOf (cut n p) → lengthsOf (restored n p q) ≡ lengthsOf p

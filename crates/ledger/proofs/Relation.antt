@@ -1,16 +1,16 @@
 -- The relation between the parts of a store and the plain ledger that each call keeps.
-use Prim.Native.Nat.{ℕ, suc, _*_, _/_, _%_, _≤_, _<_}
+use Prim.Native.Nat.{ℕ, suc, _+_, _*_, _/_, _%_, _≤_, _<_}
 use mathlib.Core.Path.{_≡_}
 use mathlib.Core.Logic.{_≢_, _⊎_}
 use mathlib.Core.Bool.{false, cond}
 use mathlib.Core.List.{List, [], _∷_}
 use mathlib.Core.Option.{Option, none, some}
-use lib.ListN.{length}
+use lib.ListN.{length, getD}
 use Rattle.ledger.specs.Method.{Category, ReadingSet, Picture, wattHours, Fresh, absent, freshIn}
 use Rattle.ledger.specs.Checks.{Registration}
 use Rattle.ledger.specs.Sizes.{settingsLength, metersLength, readingsLength, cellsLength, daysLength}
-use Rattle.ledger.specs.Ledger.{Opening, categories, dates, periods, category, dayType, Meter, Ledger, isHeld, cellBy, isPicture}
-use Rattle.ledger.specs.Store.{durationOf, metersOf, categoriesOf, datesOf, categoryOf, dayTypeOf, mpanAt, registrationAt, registrationsAt, isHeldAt, readingAt, DayEntries, notRunEntries, dayEntriesOf}
+use Rattle.ledger.specs.Ledger.{Opening, categories, dates, periods, category, dayType, Meter, Draft, Ledger, isHeld, cellBy, isPicture}
+use Rattle.ledger.specs.Store.{durationOf, metersOf, categoriesOf, datesOf, categoryOf, dayTypeOf, mpanAt, registrationAt, registrationsAt, isHeldAt, readingAt, cellOfEntry, DayEntries, notRunEntries, dayEntriesOf}
 use Rattle.ledger.proofs.Rows.{CellsAre}
 use Rattle.ledger.proofs.Days.{DaysAre}
 
@@ -124,6 +124,13 @@ dayBy o pictures c d =
 pub record DaysAgree (o : Opening) (days : List ℕ) (pictures : ℕ → Option Picture) : Type 0 where
   pub are : DaysAre (dates o) (categories o) (dayBy o pictures) days
   pub long : daysLength (categories o) (dates o) ≤ length days
+
+-- ---- the draft
+
+-- as long as the ledger's, and its entries are read as the cells that the ledger has
+pub record DraftAgree (o : Opening) (draft : List ℕ) (d : Draft) : Type 0 where
+  pub as-long : length draft ≡ d .room
+  pub shows : (c k : ℕ) → c < categories o → k < periods o → cellOfEntry (getD draft (c * periods o + k) 0) ≡ d .shown c (suc k)
 
 -- ---- the ledger's state after accepted calls
 

@@ -9,7 +9,7 @@ use native.Mathlib.Omega.{arith}
 use native.Mathlib.Nat.{mod-lt, div-lt-iff-lt-mul, mul-le-mul-right}
 use lib.Arith.{digits-div, digits-mod}
 use lib.Dec.{eqb}
-use lib.ListN.{length, length-append}
+use lib.ListN.{length, getD, length-append}
 use borrow.Table.Steps.{cases}
 use borrow.Author.Tests.{eq-eqb, ne-eqb}
 use Rattle.metering.specs.Calendar.{periodsPerDay}
@@ -18,11 +18,12 @@ use Rattle.ledger.specs.Checks.{Registration, later, latestFrom, inForce
 use Rattle.ledger.specs.Sizes.{cellsLength}
 use Rattle.ledger.specs.Ledger.{Opening, categories, dates, periods, category, dayType, Meter, Ledger, at, dayOf, cellBy, isPicture, heldSetsOf, pictureOf, movedBetween}
 use Rattle.ledger.specs.Store.{periodsOf, rowLength, categoryOf, FitsEntry, cellOfEntry, isRunAt}
-use Rattle.ledger.specs.Calls.{familyTally, freshAt, entriesFor, rowEntry, rowAt, lastRun, inheritedFrom, newRow, ranFrom, asPublished}
+use Rattle.ledger.specs.Calls.{familyTally, freshAt, entriesFor, rowEntry, rowAt, lastRun, inheritedFrom, newRow, ranFrom, asPublished, stretch, previewed}
 use Rattle.ledger.proofs.Latest.{taken-or-left}
 use Rattle.ledger.proofs.Days.{days-cong}
 use Rattle.ledger.proofs.Kept.{entries-cong, dayAt, KeptIn, ran-keeps}
-use Rattle.ledger.proofs.Lists.{sumBelow-cong, sumBelow-rows, block-below}
+use Rattle.ledger.proofs.Lists.{length-tabulate, sumBelow-cong, sumBelow-rows, block-below, part-at}
+use Rattle.ledger.proofs.Walks.{previewed-is}
 use Rattle.ledger.proofs.Entries.{FreshFits, cell-entry}
 use Rattle.ledger.proofs.Columns.{dayIf, cell-fits}
 use Rattle.ledger.proofs.Rows.{columnCell, run-at, RunLeaves, run-good}
@@ -277,6 +278,19 @@ module _ (l : Ledger) (s meters readings cells days : List ℕ) (sound : Sound l
 
   pub run-length : length (ranFrom s meters readings cells days date .published .cells) ≡ length cells
   run-length = run-leaves .as-long
+
+  -- a preview shows the date's cells as they are then
+  pub run-shows : (c k : ℕ) → c < categories (l .opening) → k < periods (l .opening) →
+      cellOfEntry (getD (previewed s meters readings cells days date) (c * periods (l .opening) + k) 0)
+      ≡ cellBy (l .opening) (at date (some (pictureOf date (l .known))) (l .pictures)) date c (suc k)
+  unfolding previewed stretch
+  run-shows c k hc hk =
+      rw row-is
+      (ap cellOfEntry (part-at _ (date * (categories (l .opening) * periods (l .opening))) (categories (l .opening) * periods (l .opening)) (c * periods (l .opening) + k) (block-below (periods (l .opening)) (categories (l .opening)) c k hc hk))
+      ∙ (unfold rowAt in entry-is (l .opening) s _ agree (at date (some (pictureOf date (l .known))) (l .pictures)) (sound .valid) after-sound run-agrees date c k h hc hk new-run))
+
+  pub previewed-long : length (previewed s meters readings cells days date) ≡ categories (l .opening) * periods (l .opening)
+  previewed-long = ap length (previewed-is s meters readings cells days date (rw (agree .dates-are) h) (rw (agree .dates-are, row-is) room)) ∙ length-tabulate _ _ ∙ row-is
 
   -- the number it reports is that of the ledger's cells that differ
   pub run-moved :

@@ -1,4 +1,5 @@
--- A row put among the cells, and the walk over later dates: equations for each turn, by cases on its two tests, and that a count finds what a run moves.
+-- A row put among the cells, and the walk over later dates: equations for each turn, by cases on its two tests, that a count finds what a run
+-- moves, and that the date's own row stands.
 use Prim.Native.Nat.{ℕ, zero, suc, _+_, _*_, _-_, _≤_, _<_}
 use mathlib.Core.Path.{_≡_, refl, sym, ap, ap₂, _∙_, fun-ext}
 use mathlib.Core.Logic.{_≢_}
@@ -14,8 +15,8 @@ use borrow.Table.Steps.{cases}
 use borrow.Author.Tests.{leb-true, leb-false}
 use Rattle.ledger.specs.Table.{tabulate}
 use Rattle.ledger.specs.Store.{datesOf, rowLength, dayTypeOf, isRunAt}
-use Rattle.ledger.specs.Calls.{carriedEntry, rowAt, putRow, Published, asPublished, Placing, publish, countOnly, follows, comparedEntry, differing, followRow, inheritedAfter, movedInRow, carryOn, movedByRow, settled, newRow, ranFrom, movedFrom, movedEntry}
-use Rattle.ledger.proofs.Lists.{getD-sets-below, getD-sets-above, getD-sets-at, length-tabulate, tabulate-ext, sumBelow-cong}
+use Rattle.ledger.specs.Calls.{carriedEntry, rowAt, putRow, Published, asPublished, Placing, publish, countOnly, follows, comparedEntry, differing, followRow, inheritedAfter, movedInRow, carryOn, movedByRow, settled, newRow, ranFrom, movedFrom, movedEntry, previewed}
+use Rattle.ledger.proofs.Lists.{getD-sets-below, getD-sets-above, getD-sets-at, length-tabulate, getD-tabulate, tabulate-ext, stretch-is, sumBelow-cong}
 
 -- ---- a row put in place
 
@@ -205,3 +206,53 @@ counted-first s meters readings cells days date h room =
     (movedByRow n cells date new)
     (rw (all, length-putRow n date (tabulate n new) cells long here) room)
     (put-alike n date cells cells (λ j l. refl) (tabulate n new) long here)
+
+-- ---- the date's own row stands while later rows are written, so a run leaves the new one in its place
+
+module _ (s : List ℕ) (t : ℕ) where
+  -- entries before the walk's first date
+  walk-keeps : (m : ℕ) (inherited : ℕ → ℕ) (d : ℕ) (p : Published) (moved : ℕ) → (d + m) * rowLength s ≤ length (p .cells) →
+      let left = carryOn publish s t m inherited d p moved .published .cells in
+      (length left ≡ length (p .cells)) × ((j : ℕ) → j < d * rowLength s → getD left j 0 ≡ getD (p .cells) j 0)
+  walk-keeps zero inherited d p moved fits = rw (carryOn-end publish s t 0 inherited d p moved) (refl, λ j l. refl)
+  walk-keeps (suc m) inherited d p moved fits =
+      let n : ℕ = rowLength s in
+      let rest : (suc d + m) * n ≤ length (p .cells) = rw (suc-add d m, ← (add-suc d m)) fits in
+      let here : d * n + n ≤ length (p .cells) = omega (arith, suc-mul d n, rest, mul-le-mul-right n (more d m)) in
+      cases (follows s t (p .cells) d)
+      (λ b.
+      cases (eqb (movedInRow n (p .cells) d inherited) 0)
+      (λ z. rw (carryOn-stop publish s t m inherited d p moved b z) (refl, λ j l. refl))
+      (λ z.
+      let row = tabulate n (followRow n (p .cells) d inherited) in
+      let long : length row ≡ n = length-tabulate n (followRow n (p .cells) d inherited) in
+      let on = walk-keeps m (inheritedAfter n (p .cells) d inherited) (suc d) (publish s d row p) _ (rw (length-putRow n d row (p .cells) long here) rest) in
+      rw (carryOn-go publish s t m inherited d p moved b z)
+      (on .0 ∙ length-putRow n d row (p .cells) long here, λ j l. on .1 j (omega (arith, suc-mul d n)) ∙ put-below n d row (p .cells) long here j l)))
+      (λ b.
+      let on = walk-keeps m inherited (suc d) p moved rest in
+      rw (carryOn-pass publish s t m inherited d p moved b) (on .0, λ j l. on .1 j (omega (arith, suc-mul d n))))
+    where
+      more : (d m : ℕ) → suc d ≤ suc d + m
+      more d m = omega arith
+
+pub previewed-is : (s meters readings cells days : List ℕ) (date : ℕ) → date < datesOf s → datesOf s * rowLength s ≤ length cells →
+    previewed s meters readings cells days date ≡ tabulate (rowLength s) (newRow s meters readings cells date)
+unfolding previewed ranFrom settled rowAt
+previewed-is s meters readings cells days date h room =
+    let n : ℕ = rowLength s in
+    let new = newRow s meters readings cells date in
+    let long : length (tabulate n new) ≡ n = length-tabulate n new in
+    let here : date * n + n ≤ length cells = omega (arith, suc-mul date n, room, mul-le-mul-right n h) in
+    let all : suc date + (datesOf s - suc date) ≡ datesOf s = omega arith in
+    let as-long = length-putRow n date (tabulate n new) cells long here in
+    let keeps =
+    walk-keeps s (dayTypeOf s date) (datesOf s - suc date) (λ k. carriedEntry (new k)) (suc date)
+    (publish s date (tabulate n new) (asPublished cells days))
+    (movedByRow n cells date new)
+    (rw (all, as-long) room) in
+    stretch-is n (date * n) _ new (rw (keeps .0, as-long) here)
+    (λ k l.
+    keeps .1 (date * n + k) (omega (arith, suc-mul date n))
+    ∙ row-put n date (tabulate n new) cells long here k l
+    ∙ getD-tabulate n new k l)

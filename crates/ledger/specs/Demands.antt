@@ -12,16 +12,17 @@ use Rattle.metering.specs.Mpan.{mpanValid}
 use Rattle.metering.specs.Calendar.{durationKnown, periodsPerDay}
 use Rattle.metering.specs.Sum.{sumBelow}
 use Rattle.metering.specs.Average.{Rounded}
-use Rattle.ledger.specs.Method.{Category, sameFamily, Picture, wattHours, present, total, absent, freshIn, Flag, A, D, E, N, flagNumber, Cell, carried, cellFrom, latest, movedCell, Coverage}
+use Rattle.ledger.specs.Method.{Category, sameFamily, Picture, wattHours, present, total, absent, freshIn, Flag, A, D, E, N, flagNumber, Cell, blank, carried, cellFrom, latest, movedCell, Coverage}
 use Rattle.ledger.specs.Table.{tabulate, chosenBelow}
 use Rattle.ledger.specs.Net.{activeImport, activeExport, onSide, sumOver, anyOf, netOn}
 use Rattle.ledger.specs.Band.{BandCall}
 use Rattle.ledger.specs.Fill.{ShapeOf, ofCategory, ofOptedOut, FillCall, weightBy, mayFill, remainderOf, leftOver, filledValues}
-use Rattle.ledger.specs.Checks.{Registration, RegistrationCall, registered, inForce, appointed, foundIn, ReceptionCall, endMinute, quality, wattHoursAt, openingCheck, NetCall, mayNet}
+use Rattle.ledger.specs.Checks.{Registration, RegistrationCall, registered, inForce, appointed, foundIn, ReceptionCall, endMinute, quality, wattHoursAt, openingCheck, NetCall, mayNet, PreviewCall, RowCall, isPublished}
 use Rattle.ledger.specs.Sizes.{settingsLength, metersLength, readingsLength, cellsLength, daysLength}
-use Rattle.ledger.specs.Ledger.{Opening, categories, dates, periods, category, dayType, Meter, Ledger, register, start, receive, run, readTotals, readCell, readNet, searchBand, fillHole, readCoverage, Answer, refused, accepted, moved, totalsAre, cellIs, netIs, bandIs, filledAre, coverageIs, answer, Lengths, leastLengths, metersShort, cellsShort, anyShort, meterWith, registrationsOf, cellAt, dayOf, isRun, pictureOf, afterRun, movedBetween, totalsAt, sideAt, netAt, bandAt, shapeAt, fillAt, coverageAt, ledgerAnswer, ledgerAfter}
+use Rattle.ledger.specs.Ledger.{Opening, categories, dates, periods, category, dayType, Meter, Ledger, Call, register, start, receive, run, readTotals, readCell, readNet, searchBand, fillHole, readCoverage, preview, readRow, Answer, refused, accepted, moved, totalsAre, cellIs, netIs, bandIs, filledAre, coverageIs, rowIs, answer, Lengths, leastLengths, metersShort, cellsShort, anyShort, meterWith, registrationsOf, cellAt, dayOf, isRun, pictureOf, afterRun, movedBetween, totalsAt, sideAt, netAt, bandAt, shapeAt, fillAt, coverageAt, rowShown, ledgerAnswer, ledgerAfter}
+use Rattle.ledger.specs.Store.{rowLength}
 use Rattle.ledger.specs.Calls.{openingVerdict}
-use Rattle.ledger.specs.Engine.{Parts, leaves, openedParts, Item, storeAnswers, cutLengths, lengthsOf, AreBytes, BodiesOfBytes, Every}
+use Rattle.ledger.specs.Engine.{Parts, callAnswer, withDraft, leaves, openedParts, Item, storeAnswers, cutLengths, lengthsOf, AreBytes, BodiesOfBytes, Every, draftOf}
 
 -- ---- Demand 2, registrations: which one is in force on a date, and which one is appointed
 
@@ -146,8 +147,9 @@ FirstFails (r ∷ rows) n p = ((r .holds → ⊥) × (n ≡ r .number) × (p ≡
 abbrev pub GoesBy : List Row → Answer → Answer → Type 0
 GoesBy rows given heard = ((heard ≡ given) ↔ AllHold rows) × ((n p : ℕ) → (heard ≡ refused n p) ↔ FirstFails rows n p)
 
--- 1: each part lent has its least length; registration and reception are lent settings, meters and readings, the cell read and the fill
--- settings and cells, the reads of totals and coverage and the band search settings and days, the net read both, opening and run all five
+-- 1: each part lent has its least length; registration and reception are lent settings, meters and readings, the cell read, the row and the
+-- fill settings and cells, the reads of totals and coverage and the band search settings and days, the net read both, opening, run and preview
+-- all five
 abbrev pub MetersLong : Opening → Lengths → Type 0
 MetersLong o n = (leastLengths o .settings ≤ n .settings) × (leastLengths o .meters ≤ n .meters) × (leastLengths o .readings ≤ n .readings)
 
@@ -486,7 +488,7 @@ ledgerAfterItems l whole (i ∷ is) = ledgerAfterItems (ledgerAfter l (cutLength
 
 -- and from an opening on, beside the parts p
 abbrev pub ledgerBeside : Parts → Opening → List Item → Ledger
-ledgerBeside p a items = ledgerAfterItems (start a) (lengthsOf p) items
+ledgerBeside p a items = ledgerAfterItems (start a (draftOf a (p .draft))) (lengthsOf p) items
 
 -- x is the store's answer to i after those items: the last one, behind the answers to them
 abbrev pub LastAnswer : Parts → List Item → Item → Answer → Type 0
@@ -896,3 +898,105 @@ EngineCovers =
     (p : Parts) (a : Opening) (items : List Item) (n : Lengths) (d c : ℕ) (given : Coverage) → Accepts p a → BodiesOfBytes items →
     LastAnswer (openedParts p a) items (record { lent = n; call = readCoverage d c }) (coverageIs given) →
     Covered (ledgerBeside p a items) d c given
+
+-- ---- Previews and rows (change request 2026-05)
+
+-- 18: of the draft's entries as many are lent as a date has cells
+abbrev pub DraftLong : Ledger → ℕ → Type 0
+DraftLong l lent = (categories (l .opening) * periods (l .opening) ≤ lent) × (categories (l .opening) * periods (l .opening) ≤ l .draft .room)
+
+abbrev pub PreviewExact : Type 0
+PreviewExact =
+    (l : Ledger) (n : Lengths) (a : PreviewCall) →
+    GoesBy (row 1 (AllLong (l .opening) n) ∷ row 18 (DraftLong l (a .lent)) ∷ row 9 (a .date < dates (l .opening)) ∷ [])
+    (moved (movedBetween (l .opening) (cellAt l) (cellAt (afterRun l (a .date)))))
+    (ledgerAnswer l n (preview a))
+
+-- 14 is for published rows alone, the others are for all
+abbrev pub RowExact : Type 0
+RowExact =
+    (l : Ledger) (n : Lengths) (a : RowCall) →
+    GoesBy
+    (row 1 (CellsLong (l .opening) n)
+    ∷ row 18 (DraftLong l (a .lent))
+    ∷ row 9 (a .date < dates (l .opening))
+    ∷ row 15 (a .category < categories (l .opening))
+    ∷ row 14 (a .switch ≡ 0 → HasPicture l (a .date))
+    ∷ [])
+    (rowIs (rowShown l a))
+    (ledgerAnswer l n (readRow a))
+
+-- with a draft that is long enough a preview answers what the run would, a refusal too; and so does the run after it
+abbrev pub PreviewIsRun : Type 0
+PreviewIsRun =
+    (l : Ledger) (n : Lengths) (a : PreviewCall) → DraftLong l (a .lent) →
+    (ledgerAnswer l n (preview a) ≡ ledgerAnswer l n (run (a .date)))
+    × (ledgerAnswer (ledgerAfter l n (preview a)) n (run (a .date)) ≡ ledgerAnswer l n (preview a))
+
+-- after it each row of the draft is what the published row would be after the run, refusals included
+abbrev pub DraftIsRun : Type 0
+DraftIsRun =
+    (l : Ledger) (n m : Lengths) (a : PreviewCall) (moves category switch lent : ℕ) → ledgerAnswer l n (preview a) ≡ moved moves → switch ≢ 0 →
+    ledgerAnswer (ledgerAfter l n (preview a)) m (readRow (record { date = a .date; category = category; switch = switch; lent = lent }))
+    ≡ ledgerAnswer (ledgerAfter l n (run (a .date))) m (readRow (record { date = a .date; category = category; switch = 0; lent = lent }))
+
+-- a row has P cells, and a published one those that cell reads give
+abbrev pub RowIsCells : Type 0
+RowIsCells =
+    (l : Ledger) (n : Lengths) (a : RowCall) (cells : List Cell) → ledgerAnswer l n (readRow a) ≡ rowIs cells →
+    (length cells ≡ periods (l .opening))
+    × (a .switch ≡ 0 → (k : ℕ) → k < periods (l .opening) → ledgerAnswer l n (readCell (a .date) (a .category) (suc k)) ≡ cellIs (getD cells k blank))
+
+-- whether a call reads a row of the draft
+abbrev pub readsDraft : Call → Bool
+readsDraft (register a) = false
+readsDraft (receive a) = false
+readsDraft (run d) = false
+readsDraft (readTotals d c) = false
+readsDraft (readCell d c j) = false
+readsDraft (readNet a) = false
+readsDraft (searchBand a) = false
+readsDraft (fillHole a) = false
+readsDraft (readCoverage d c) = false
+readsDraft (preview a) = false
+readsDraft (readRow a) = not (isPublished a)
+
+-- the answers to a list of calls but for those to rows of the draft
+unfoldable pub butDraftRows : List Item → List Answer → List Answer
+butDraftRows [] answers = []
+butDraftRows (i ∷ is) [] = []
+butDraftRows (i ∷ is) (x ∷ xs) = let rest = butDraftRows is xs in cond (readsDraft (i .call)) rest (x ∷ rest)
+
+-- a call among others, beside the same list without it: what is answered before and after
+pub record AltersRowsOnly (p : Parts) (before : List Item) (i : Item) (later : List Item) : Type 0 where
+  pub heard : Answer
+  pub after : List Answer
+  pub without : List Answer
+  pub with-it : storeAnswers p (before ++ (i ∷ later)) ≡ storeAnswers p before ++ (heard ∷ after)
+  pub without-it : storeAnswers p (before ++ later) ≡ storeAnswers p before ++ without
+  pub alike : butDraftRows later after ≡ butDraftRows later without
+
+-- a preview anywhere among other calls alters no later answer but rows of its draft, on any store whatever
+abbrev pub PreviewAltersRowsOnly : Type 0
+PreviewAltersRowsOnly =
+    (p : Parts) (before : List Item) (n : Lengths) (a : PreviewCall) (later : List Item) → AltersRowsOnly p before (record { lent = n; call = preview a }) later
+
+-- it leaves every part, all of the draft where it is refused, and past the date's entries where it is not
+pub record LeavesRest (p : Parts) (a : PreviewCall) : Type 0 where
+  pub draft : List ℕ
+  pub parts-stand : leaves p (preview a) ≡ withDraft draft p
+  pub refusal : (number place : ℕ) → callAnswer p (preview a) ≡ refused number place → draft ≡ p .draft
+  pub as-long : length draft ≡ length (p .draft)
+  pub rest : (i : ℕ) → rowLength (p .settings) ≤ i → getD draft i 0 ≡ getD (p .draft) i 0
+
+abbrev pub PreviewLeavesRest : Type 0
+PreviewLeavesRest = (p : Parts) (a : PreviewCall) → LeavesRest p a
+
+-- on the engine: after any calls a preview with a draft that is long enough is answered, and the run after it is answered the same
+abbrev pub EngineForetells : Type 0
+EngineForetells =
+    (p : Parts) (a : Opening) (items : List Item) (n : Lengths) (r : PreviewCall) → Accepts p a → BodiesOfBytes items →
+    categories a * periods a ≤ r .lent → categories a * periods a ≤ length (p .draft) →
+    let previews : Item = record { lent = n; call = preview r } in
+    (heard : Answer) × LastAnswer (openedParts p a) items previews heard
+    × LastAnswer (openedParts p a) (items ++ (previews ∷ [])) (record { lent = n; call = run (r .date) }) heard

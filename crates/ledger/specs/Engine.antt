@@ -1,18 +1,25 @@
 -- Lists of calls: the answers of the call definitions, threaded through the parts, and those of the plain ledger.
-use Prim.Native.Nat.{ℕ, _<_, min}
+use Prim.Native.Nat.{ℕ, _+_, _-_, _*_, _<_, min}
 use mathlib.Core.Path.{_≡_}
-use mathlib.Core.List.{List, [], _∷_, _++_}
+use mathlib.Core.List.{List, [], _∷_, _++_, map}
 use lib.ListN.{length, getD, take, drop}
-use Rattle.ledger.specs.Ledger.{Opening, Ledger, start, Call, register, receive, run, readTotals, readCell, readNet, searchBand, fillHole, readCoverage, Answer, accepted, moved, totalsAre, cellIs, netIs, bandIs, filledAre, coverageIs, answer, left, Lengths, ledgerAnswer, ledgerAfter}
-use Rattle.ledger.specs.Calls.{openingVerdict, openedSettings, openedMeters, openedReadings, openedCells, openedDays, registrationVerdict, registeredMeters, receptionVerdict, receivedReadings, runVerdict, Published, ranFrom, dayVerdict, totalsFor, cellVerdict, cellFor, netVerdict, netFor, bandVerdict, bandFor, fillVerdict, fillFor, coverageFor}
+use Rattle.ledger.specs.Method.{Cell}
+use Rattle.ledger.specs.Ledger.{Opening, periods, Draft, Ledger, start, Call, register, receive, run, readTotals, readCell, readNet, searchBand, fillHole, readCoverage, preview, readRow, Answer, accepted, moved, totalsAre, cellIs, netIs, bandIs, filledAre, coverageIs, rowIs, answer, left, Lengths, ledgerAnswer, ledgerAfter}
+use Rattle.ledger.specs.Store.{cellOfEntry}
+use Rattle.ledger.specs.Calls.{openingVerdict, openedSettings, openedMeters, openedReadings, openedCells, openedDays, registrationVerdict, registeredMeters, receptionVerdict, receivedReadings, runVerdict, Published, ranFrom, dayVerdict, totalsFor, cellVerdict, cellFor, netVerdict, netFor, bandVerdict, bandFor, fillVerdict, fillFor, coverageFor, previewVerdict, previewed, rowVerdict, rowFor, overwritten}
 
--- the parts of a store
+-- the parts of a store, and the draft beside them
 pub record Parts : Type 0 where
   pub settings : List ℕ
   pub meters : List ℕ
   pub readings : List ℕ
   pub cells : List ℕ
   pub days : List ℕ
+  pub draft : List ℕ
+
+-- the cells that entries are read as
+unfoldable pub cellsOf : List ℕ → List Cell
+cellsOf entries = map cellOfEntry entries
 
 -- what a call answers, by the definitions that the code's contracts cite
 unfoldable pub callAnswer : Parts → Call → Answer
@@ -27,16 +34,34 @@ callAnswer p (readNet a) = answer (netVerdict (p .settings) (p .cells) (p .days)
 callAnswer p (searchBand a) = answer (bandVerdict (p .settings) (p .days) a) (bandIs (bandFor (p .settings) (p .days) a))
 callAnswer p (fillHole a) = answer (fillVerdict (p .settings) (p .cells) a) (filledAre (fillFor (p .settings) (p .cells) a))
 callAnswer p (readCoverage d c) = answer (dayVerdict (p .settings) (p .days) d c) (coverageIs (coverageFor (p .settings) (p .days) d c))
+callAnswer p (preview a) =
+    answer (previewVerdict (p .settings) (p .meters) (p .readings) (p .cells) (p .days) (take (a .lent) (p .draft)) (a .date))
+    (moved (ranFrom (p .settings) (p .meters) (p .readings) (p .cells) (p .days) (a .date) .moved))
+callAnswer p (readRow a) =
+    answer (rowVerdict (p .settings) (p .cells) (take (a .lent) (p .draft)) a)
+    (rowIs (cellsOf (rowFor (p .settings) (p .cells) (take (a .lent) (p .draft)) a)))
 
 -- parts with what a registration, a reception or a run writes
 abbrev pub withMeters : List ℕ → Parts → Parts
-withMeters meters p = record { settings = p .settings; meters = meters; readings = p .readings; cells = p .cells; days = p .days }
+withMeters meters p =
+    record { settings = p .settings; meters = meters; readings = p .readings; cells = p .cells; days = p .days; draft = p .draft }
 
 abbrev pub withReadings : List ℕ → Parts → Parts
-withReadings readings p = record { settings = p .settings; meters = p .meters; readings = readings; cells = p .cells; days = p .days }
+withReadings readings p =
+    record { settings = p .settings; meters = p .meters; readings = readings; cells = p .cells; days = p .days; draft = p .draft }
 
 abbrev pub withPublished : Published → Parts → Parts
-withPublished q p = record { settings = p .settings; meters = p .meters; readings = p .readings; cells = q .cells; days = q .days }
+withPublished q p =
+    record { settings = p .settings; meters = p .meters; readings = p .readings; cells = q .cells; days = q .days; draft = p .draft }
+
+-- and with what a preview writes
+abbrev pub withDraft : List ℕ → Parts → Parts
+withDraft draft p =
+    record { settings = p .settings; meters = p .meters; readings = p .readings; cells = p .cells; days = p .days; draft = draft }
+
+-- a draft of which the first n entries were lent to a preview: they have the date's entries at their front, and those behind them stand
+abbrev pub drafted : ℕ → List ℕ → List ℕ → List ℕ
+drafted n entries draft = overwritten entries (take n draft) ++ drop n draft
 
 -- and what a call leaves of the parts
 unfoldable pub leaves : Parts → Call → Parts
@@ -55,6 +80,10 @@ leaves p (readNet a) = p
 leaves p (searchBand a) = p
 leaves p (fillHole a) = p
 leaves p (readCoverage d c) = p
+leaves p (preview a) =
+    left (previewVerdict (p .settings) (p .meters) (p .readings) (p .cells) (p .days) (take (a .lent) (p .draft)) (a .date)) p
+    (withDraft (drafted (a .lent) (previewed (p .settings) (p .meters) (p .readings) (p .cells) (p .days) (a .date)) (p .draft)) p)
+leaves p (readRow a) = p
 
 -- the parts after an accepted opening
 unfoldable pub openedParts : Parts → Opening → Parts
@@ -65,13 +94,14 @@ openedParts p a =
       readings = openedReadings a (p .readings);
       cells = openedCells a (p .cells);
       days = openedDays a (p .days);
+      draft = p .draft;
     }
 
 -- and after any
 unfoldable pub afterOpening : Parts → Opening → Parts
 afterOpening p a = left (openingVerdict (p .settings) (p .meters) (p .readings) (p .cells) (p .days) a) p (openedParts p a)
 
--- a call, and how much of each part it is lent
+-- a call, and how much of each part it is lent; how much of the draft is said by the call itself
 pub record Item : Type 0 where
   pub lent : Lengths
   pub call : Call
@@ -85,6 +115,7 @@ cut n p =
       readings = take (n .readings) (p .readings);
       cells = take (n .cells) (p .cells);
       days = take (n .days) (p .days);
+      draft = p .draft;
     }
 
 -- and what was cut off the parts p put back behind those that a call left
@@ -96,6 +127,7 @@ restored n p after =
       readings = after .readings ++ drop (n .readings) (p .readings);
       cells = after .cells ++ drop (n .cells) (p .cells);
       days = after .days ++ drop (n .days) (p .days);
+      draft = after .draft;
     }
 
 -- the parts after a call that was lent them cut
@@ -143,6 +175,8 @@ BodyOfBytes (readNet a) = Unit {0}
 BodyOfBytes (searchBand a) = Unit {0}
 BodyOfBytes (fillHole a) = Unit {0}
 BodyOfBytes (readCoverage d c) = Unit {0}
+BodyOfBytes (preview a) = Unit {0}
+BodyOfBytes (readRow a) = Unit {0}
 
 -- a condition on every entry of a list
 abbrev pub Every : {I : Type 0} → (I → Type 0) → List I → Type 0
@@ -152,10 +186,15 @@ Every ok (i ∷ is) = ok i × Every ok is
 abbrev pub BodiesOfBytes : List Item → Type 0
 BodiesOfBytes items = Every (λ i. BodyOfBytes (i .call)) items
 
--- Demand 3: for every opening that is accepted and every list of calls with the lengths lent, the answers are those of the plain ledger
+-- the cells that a draft shows, whatever stands in it
+abbrev pub draftOf : Opening → List ℕ → Draft
+draftOf o draft = record { room = length draft; shown = λ c j. cellOfEntry (getD draft (c * periods o + (j - 1)) 0) }
+
+-- Demand 3: for every opening that is accepted and every list of calls with the lengths lent, the answers are those of the plain ledger;
+-- what the draft holds at first is given to both sides alike
 abbrev pub Agreement : Type 0
 Agreement =
     (p : Parts) (a : Opening) (items : List Item) →
     openingVerdict (p .settings) (p .meters) (p .readings) (p .cells) (p .days) a .number ≡ 0 →
     BodiesOfBytes items →
-    storeAnswers (openedParts p a) items ≡ ledgerAnswers (start a) (lengthsOf p) items
+    storeAnswers (openedParts p a) items ≡ ledgerAnswers (start a (draftOf a (p .draft))) (lengthsOf p) items

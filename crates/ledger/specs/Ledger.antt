@@ -1,5 +1,5 @@
 -- The plain ledger. It is given the opening, then each call's arguments and the lengths of the parts lent, and works everything out afresh.
-use Prim.Native.Nat.{ℕ, suc, _/_}
+use Prim.Native.Nat.{ℕ, suc, _/_, min}
 use mathlib.Core.Bool.{Bool, true, false, _&&_, _||_, cond}
 use mathlib.Core.List.{List, [], _∷_, _++_}
 use mathlib.Core.Option.{Option, none, some}
@@ -10,8 +10,9 @@ use Rattle.ledger.specs.Method.{Category, ReadingSet, Picture, freshIn, 
 use Rattle.ledger.specs.Net.{activeImport, activeExport, sideOf, Net, netOn}
 use Rattle.ledger.specs.Band.{BandCall, Band, bandOn}
 use Rattle.ledger.specs.Fill.{FillCall, shapeCategory, weightBy, mayFill, filledValues}
-use Rattle.ledger.specs.Checks.{Registration, RegistrationCall, ReceptionCall, Verdict, verdict, registered, startOf, inForce, registrationCheck, receptionCheck, readingIn, anyBelow, runCheck, readCheck, totalsInRange, cellInRange, NetCall, listsShort, mayNet, netCheck, bandCheck, fillCheck}
-use Rattle.ledger.specs.Sizes.{settingsLength, metersLength, readingsLength, cellsLength, daysLength}
+use Rattle.ledger.specs.Checks.{Registration, RegistrationCall, ReceptionCall, Verdict, verdict, registered, startOf, inForce, registrationCheck, receptionCheck, readingIn, anyBelow, runCheck, readCheck, totalsInRange, cellInRange, NetCall, listsShort, mayNet, netCheck, bandCheck, fillCheck, PreviewCall, RowCall, isPublished, previewCheck, rowCheck}
+use Rattle.ledger.specs.Table.{tabulate}
+use Rattle.ledger.specs.Sizes.{settingsLength, metersLength, readingsLength, cellsLength, daysLength, draftLength}
 pub use Rattle.ledger.specs.Opening.{Opening, categories, dates, periods, category, dayType}
 
 -- ---- what it keeps
@@ -22,15 +23,21 @@ pub record Meter : Type 0 where
   pub registrations : List Registration
   pub held : ℕ → Option ReadingSet
 
+-- the draft beside the store: how many entries it has, and the cell that it shows of each category and period
+pub record Draft : Type 0 where
+  pub room : ℕ
+  pub shown : ℕ → ℕ → Cell
+
 -- for each date the picture, or "not run"
 pub record Ledger : Type 0 where
   pub opening : Opening
   pub known : List Meter
   pub pictures : ℕ → Option Picture
+  pub draft : Draft
 
--- at first no meter is known, no set held and no date run
-unfoldable pub start : Opening → Ledger
-start o = record { opening = o; known = []; pictures = λ d. none }
+-- at first no meter is known, no set held and no date run; what the draft shows then is given
+unfoldable pub start : Opening → Draft → Ledger
+start o draft = record { opening = o; known = []; pictures = λ d. none; draft = draft }
 
 -- ---- calls, answers, lengths lent
 
@@ -44,6 +51,8 @@ pub data Call : Type 0 where
   searchBand : BandCall → Call
   fillHole : FillCall → Call
   readCoverage : ℕ → ℕ → Call
+  preview : PreviewCall → Call
+  readRow : RowCall → Call
 
 -- a refusal has its number and place
 pub data Answer : Type 0 where
@@ -56,6 +65,7 @@ pub data Answer : Type 0 where
   bandIs : Band → Answer
   filledAre : List ℕ → Answer
   coverageIs : Coverage → Answer
+  rowIs : List Cell → Answer
 
 -- the first failed check's answer, or that of the accepted call
 unfoldable pub answer : Verdict → Answer → Answer
@@ -92,7 +102,7 @@ unfoldable pub metersShort : Opening → Lengths → Bool
 metersShort o n =
     settingsShort o n || ltb (n .meters) (metersLength (o .meters)) || ltb (n .readings) (readingsLength (o .meters) (dates o) (periods o))
 
--- the cell read and the fill are lent settings and cells, the net read days as well
+-- the cell read, the row and the fill are lent settings and cells, the net read days as well
 unfoldable pub cellsShort : Opening → Lengths → Bool
 cellsShort o n = settingsShort o n || ltb (n .cells) (cellsLength (categories o) (dates o) (periods o))
 
@@ -100,7 +110,7 @@ cellsShort o n = settingsShort o n || ltb (n .cells) (cellsLength (categories o)
 unfoldable pub daysShort : Opening → Lengths → Bool
 daysShort o n = settingsShort o n || ltb (n .days) (daysLength (categories o) (dates o))
 
--- an opening and a run are lent all five
+-- an opening, a run and a preview are lent all five
 unfoldable pub anyShort : Opening → Lengths → Bool
 anyShort o n =
     metersShort o n || ltb (n .cells) (cellsLength (categories o) (dates o) (periods o)) || ltb (n .days) (daysLength (categories o) (dates o))
@@ -147,7 +157,7 @@ registerIn a (some m) ms = changed (a .mpan) (withRegistration (registered a)) m
 
 unfoldable pub afterRegistration : Ledger → RegistrationCall → Ledger
 afterRegistration l a =
-    record { opening = l .opening; known = registerIn a (meterWith (a .mpan) (l .known)) (l .known); pictures = l .pictures }
+    record { opening = l .opening; known = registerIn a (meterWith (a .mpan) (l .known)) (l .known); pictures = l .pictures; draft = l .draft }
 
 -- ---- reception
 
@@ -175,6 +185,7 @@ afterReception l a =
       opening = l .opening;
       known = changed (a .mpan) (withSet (a .date) (setOf (l .opening) (a .body))) (l .known);
       pictures = l .pictures;
+      draft = l .draft;
     }
 
 -- ---- cells, made afresh from the pictures
@@ -214,12 +225,15 @@ pictureOf date (m ∷ ms) = heldSetsOf (m .held date) (inForce date (m .registra
 
 unfoldable pub afterRun : Ledger → ℕ → Ledger
 afterRun l date =
-    record { opening = l .opening; known = l .known; pictures = at date (some (pictureOf date (l .known))) (l .pictures) }
+    record { opening = l .opening; known = l .known; pictures = at date (some (pictureOf date (l .known))) (l .pictures); draft = l .draft }
 
 -- the paper's "moved": how many cells of all dates, categories and periods differ
 unfoldable pub movedBetween : Opening → (ℕ → ℕ → ℕ → Cell) → (ℕ → ℕ → ℕ → Cell) → ℕ
 movedBetween o before after =
     sumBelow (dates o) (λ d. sumBelow (categories o) (λ c. sumBelow (periods o) (λ k. movedCell (before d c (suc k)) (after d c (suc k)))))
+
+abbrev pub movedByRun : Ledger → ℕ → ℕ
+movedByRun l d = movedBetween (l .opening) (cellAt l) (cellAt (afterRun l d))
 
 -- ---- reads
 
@@ -286,18 +300,53 @@ ledgerCoverageCheck l n d c =
 unfoldable pub coverageAt : Ledger → ℕ → ℕ → Coverage
 coverageAt l d c = coverageOn (periods (l .opening)) (isRun l) (λ x j. cellAt l x c j) d
 
+-- ---- preview and row
+
+-- a draft is lent cut at its end, as a part is
+unfoldable pub draftShort : Ledger → ℕ → Bool
+draftShort l lent = ltb (min lent (l .draft .room)) (draftLength (categories (l .opening)) (periods (l .opening)))
+
+unfoldable pub ledgerPreviewCheck : Ledger → Lengths → PreviewCall → Verdict
+ledgerPreviewCheck l n a = verdict (previewCheck (anyShort (l .opening) n) (draftShort l (a .lent)) (dates (l .opening)) (a .date))
+
+-- the draft shows the date as a run would leave it, and nothing else changes
+unfoldable pub afterPreview : Ledger → PreviewCall → Ledger
+afterPreview l a =
+    record {
+      opening = l .opening;
+      known = l .known;
+      pictures = l .pictures;
+      draft = record { room = l .draft .room; shown = λ c j. cellAt (afterRun l (a .date)) (a .date) c j };
+    }
+
+unfoldable pub ledgerRowCheck : Ledger → Lengths → RowCall → Verdict
+ledgerRowCheck l n a =
+    verdict
+    (rowCheck (cellsShort (l .opening) n) (draftShort l (a .lent)) (dates (l .opening))
+    (totalsInRange (categories (l .opening)) (a .category))
+    (isRun l (a .date))
+    a)
+
+-- a category's row, published or of the draft
+unfoldable pub rowShown : Ledger → RowCall → List Cell
+rowShown l a =
+    tabulate (periods (l .opening))
+    (λ k. cond (isPublished a) (cellAt l (a .date) (a .category) (suc k)) (l .draft .shown (a .category) (suc k)))
+
 -- ---- a call
 
 unfoldable pub ledgerAnswer : Ledger → Lengths → Call → Answer
 ledgerAnswer l n (register a) = answer (ledgerRegistrationCheck l n a) accepted
 ledgerAnswer l n (receive a) = answer (ledgerReceptionCheck l n a) accepted
-ledgerAnswer l n (run d) = answer (ledgerRunCheck l n d) (moved (movedBetween (l .opening) (cellAt l) (cellAt (afterRun l d))))
+ledgerAnswer l n (run d) = answer (ledgerRunCheck l n d) (moved (movedByRun l d))
 ledgerAnswer l n (readTotals d c) = answer (ledgerTotalsCheck l n d c) (totalsAre (totalsAt l d c))
 ledgerAnswer l n (readCell d c j) = answer (ledgerCellCheck l n d c j) (cellIs (cellAt l d c j))
 ledgerAnswer l n (readNet a) = answer (ledgerNetCheck l n a) (netIs (netAt l a))
 ledgerAnswer l n (searchBand a) = answer (ledgerBandCheck l n a) (bandIs (bandAt l a))
 ledgerAnswer l n (fillHole a) = answer (ledgerFillCheck l n a) (filledAre (fillAt l a))
 ledgerAnswer l n (readCoverage d c) = answer (ledgerCoverageCheck l n d c) (coverageIs (coverageAt l d c))
+ledgerAnswer l n (preview a) = answer (ledgerPreviewCheck l n a) (moved (movedByRun l (a .date)))
+ledgerAnswer l n (readRow a) = answer (ledgerRowCheck l n a) (rowIs (rowShown l a))
 
 unfoldable pub ledgerAfter : Ledger → Lengths → Call → Ledger
 ledgerAfter l n (register a) = left (ledgerRegistrationCheck l n a) l (afterRegistration l a)
@@ -309,3 +358,5 @@ ledgerAfter l n (readNet a) = l
 ledgerAfter l n (searchBand a) = l
 ledgerAfter l n (fillHole a) = l
 ledgerAfter l n (readCoverage d c) = l
+ledgerAfter l n (preview a) = left (ledgerPreviewCheck l n a) l (afterPreview l a)
+ledgerAfter l n (readRow a) = l

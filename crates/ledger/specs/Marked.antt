@@ -1,8 +1,8 @@
--- The scope paper's marked list as one computed check; its worked example, one of nets, one of bands, one of fills, one of coverage, one of senders and one of remainders as computed runs of the ledger.
+-- The scope paper's marked list as one computed check; its worked example, one of nets, one of bands, one of fills, one of coverage, one of senders, one of remainders and one of previews as computed runs of the ledger.
 use Prim.Native.Nat.{ℕ, zero, suc, _/_, _%_}
 use mathlib.Core.Path.{_≡_, refl}
 use mathlib.Core.Bool.{Bool, true, false, not, _&&_, Bool·beq}
-use mathlib.Core.List.{List, [], _∷_, map}
+use mathlib.Core.List.{List, [], _∷_, _++_, map}
 use mathlib.Core.Option.{some}
 use lib.Dec.{eqb}
 use lib.IntN.{ℤ, pos, negsuc}
@@ -17,10 +17,11 @@ use Rattle.ledger.specs.Table.{tabulate, chosenBelow, firstFrom}
 use Rattle.ledger.specs.Net.{onSide, sideOf, sumOver, anyOf, signedSum, netPeriod, markOf, netTot, netTot7, netOn}
 use Rattle.ledger.specs.Band.{inBand, bandDates, bandOn}
 use Rattle.ledger.specs.Fill.{ShapeOf, ofCategory, ofOptedOut, isOptedOutShape, shapeCategory, weightBy, mayFill, comesBefore, countBefore, wholePart, remainderOf, leftOver, filledValue, filledValues}
-use Rattle.ledger.specs.Checks.{firstFailed, anyBelow, orElse, firstNumber, callNumber, contentNumber, recordNumberIf, recordNumber, endMinute, quality, wattHoursAt, momentOf, startOf, starts, later, latestFrom, inForce, appointed, notAfterLast, fieldsNumber, knownNumber, meterNumber, registrationCheck, headerNumber, bodyCheck, inForceCheck, receptionCheck, isReading, readingIn, runCheck, readCheck, totalsInRange, cellInRange, listsShort, mayNet, netCheck, bandCheck, fillCheck}
-use Rattle.ledger.specs.Sizes.{settingsLength, metersLength, readingsLength, cellsLength, daysLength}
-use Rattle.ledger.specs.Ledger.{Opening, Ledger, start, Call, register, receive, run, readTotals, readCell, readNet, searchBand, fillHole, readCoverage, Answer, refused, accepted, moved, totalsAre, cellIs, netIs, bandIs, filledAre, coverageIs, answer, left, Lengths, leastLengths, settingsShort, metersShort, cellsShort, daysShort, anyShort, meterWith, changed, heldFrom, ledgerRegistrationCheck, registerIn, afterRegistration, ledgerReceptionCheck, setOf, at, afterReception, cellBy, cellAt, isRun, ledgerRunCheck, pictureOf, afterRun, movedBetween, ledgerTotalsCheck, ledgerCellCheck, totalsAt, ledgerNetCheck, sideAt, netAt, ledgerBandCheck, bandAt, shapeAt, weightAt, ledgerFillCheck, fillAt, ledgerCoverageCheck, coverageAt, ledgerAnswer, ledgerAfter}
-use Rattle.ledger.specs.Engine.{Parts, openedParts, Item, storeAnswers, lengthsOf}
+use Rattle.ledger.specs.Checks.{firstFailed, anyBelow, orElse, firstNumber, callNumber, contentNumber, recordNumberIf, recordNumber, endMinute, quality, wattHoursAt, momentOf, startOf, starts, later, latestFrom, inForce, appointed, notAfterLast, fieldsNumber, knownNumber, meterNumber, registrationCheck, headerNumber, bodyCheck, inForceCheck, receptionCheck, isReading, readingIn, runCheck, readCheck, totalsInRange, cellInRange, listsShort, mayNet, netCheck, bandCheck, fillCheck, previewCheck, rowCheck}
+use Rattle.ledger.specs.Sizes.{settingsLength, metersLength, readingsLength, cellsLength, daysLength, draftLength}
+use Rattle.ledger.specs.Ledger.{Opening, Ledger, start, Call, register, receive, run, readTotals, readCell, readNet, searchBand, fillHole, readCoverage, preview, readRow, Answer, refused, accepted, moved, totalsAre, cellIs, netIs, bandIs, filledAre, coverageIs, rowIs, answer, left, Lengths, leastLengths, settingsShort, metersShort, cellsShort, daysShort, anyShort, meterWith, changed, heldFrom, ledgerRegistrationCheck, registerIn, afterRegistration, ledgerReceptionCheck, setOf, at, afterReception, cellBy, cellAt, isRun, ledgerRunCheck, pictureOf, afterRun, movedBetween, ledgerTotalsCheck, ledgerCellCheck, totalsAt, ledgerNetCheck, sideAt, netAt, ledgerBandCheck, bandAt, shapeAt, weightAt, ledgerFillCheck, fillAt, ledgerCoverageCheck, coverageAt, draftShort, ledgerPreviewCheck, afterPreview, ledgerRowCheck, rowShown, ledgerAnswer, ledgerAfter}
+use Rattle.ledger.specs.Store.{flagNumberOf, cellOfEntry}
+use Rattle.ledger.specs.Engine.{Parts, openedParts, Item, storeAnswers, lengthsOf, draftOf}
 use Rattle.ledger.specs.Demands.{Accepts}
 
 -- the test holds of the n periods from 1 on
@@ -517,18 +518,102 @@ remainderAnswers =
     ∷ cellIs (record { flag = N; value = 0; count = 0; origin = 65535; remainder = pos 0 })
     ∷ []
 
--- ---- all seven, computed
+-- ---- a worked example of previews and rows (change request 2026-05)
+
+-- the Smart import category of group A and an Advanced one, three dates of one day type
+abbrev pub previewOpening : Opening
+previewOpening =
+    record {
+      duration = 30;
+      meters = 1;
+      categoryBytes =
+          1 ∷ 1 ∷ 1 ∷ 1 ∷ 1 ∷ 0 ∷ 0 ∷ 1
+          ∷ 2 ∷ 0 ∷ 0 ∷ 1 ∷ 1 ∷ 0 ∷ 0 ∷ 1
+          ∷ [];
+      dayTypes = 1 ∷ 1 ∷ 1 ∷ [];
+    }
+
+-- of category 0, beside a draft lent whole
+abbrev pub showsRow : ℕ → ℕ → Call
+showsRow switch d = readRow (record { date = d; category = 0; switch = switch; lent = 96 })
+
+-- 5 Wh in period 1, then 6 and 9 Wh in periods 1 and 2
+abbrev pub previewCalls : List Call
+previewCalls =
+    registers exampleMpan 0
+    ∷ sends exampleMpan 0 1 (half 30 5 [])
+    ∷ run 0
+    ∷ run 1
+    ∷ sends exampleMpan 0 1 (half 30 6 (half 60 9 []))
+    ∷ showsRow 1 0
+    ∷ preview (record { date = 0; lent = 95 })
+    ∷ preview (record { date = 3; lent = 95 })
+    ∷ preview (record { date = 3; lent = 96 })
+    ∷ preview (record { date = 0; lent = 200 })
+    ∷ readCell 0 0 1
+    ∷ readCell 1 0 1
+    ∷ showsRow 1 0
+    ∷ showsRow 0 0
+    ∷ showsRow 0 2
+    ∷ showsRow 1 2
+    ∷ showsRow 0 3
+    ∷ showsRow 2 3
+    ∷ readRow (record { date = 0; category = 0; switch = 0; lent = 95 })
+    ∷ readRow (record { date = 2; category = 2; switch = 0; lent = 96 })
+    ∷ run 0
+    ∷ showsRow 0 0
+    ∷ []
+
+-- a cell of one reading that date 0 gave
+abbrev pub oneReading : Flag → ℕ → Cell
+oneReading f v = record { flag = f; value = v; count = 1; origin = 0; remainder = pos 0 }
+
+-- a row with some cells in front, and no shape for the other periods of 48
+unfoldable pub rowWith : List Cell → ℕ → Answer
+rowWith cells n = rowIs (cells ++ replicate n blank)
+
+abbrev pub previewAnswers : List Answer
+previewAnswers =
+    accepted ∷ accepted
+    ∷ moved 1
+    ∷ moved 1
+    ∷ accepted
+    ∷ rowWith [] 48
+    ∷ refused 18 0
+    ∷ refused 18 0
+    ∷ refused 9 0
+    ∷ moved 4
+    ∷ cellIs (oneReading A 5)
+    ∷ cellIs (oneReading E 5)
+    ∷ rowWith (oneReading A 6 ∷ oneReading A 9 ∷ []) 46
+    ∷ rowWith (oneReading A 5 ∷ []) 47
+    ∷ refused 14 0
+    ∷ rowWith (oneReading A 6 ∷ oneReading A 9 ∷ []) 46
+    ∷ refused 9 0
+    ∷ refused 9 0
+    ∷ refused 18 0
+    ∷ refused 15 0
+    ∷ moved 4
+    ∷ rowWith (oneReading A 6 ∷ oneReading A 9 ∷ []) 46
+    ∷ []
+
+-- ---- all eight, computed
+
+-- beside a draft of 96 entries that are 0 at first
+abbrev pub exampleDraft : List ℕ
+exampleDraft = replicate 96 0
 
 pub worked-examples :
-    (ledgerRun (start exampleOpening) (leastLengths exampleOpening) exampleCalls ≡ exampleAnswers)
-    × (ledgerRun (start netOpening) (leastLengths netOpening) netCalls ≡ netAnswers)
-    × (ledgerRun (start bandOpening) (leastLengths bandOpening) bandCalls ≡ bandAnswers)
-    × (ledgerRun (start fillOpening) (leastLengths fillOpening) fillCalls ≡ fillAnswers)
-    × (ledgerRun (start coverageOpening) (leastLengths coverageOpening) coverageCalls ≡ coverageAnswers)
-    × (ledgerRun (start senderOpening) (leastLengths senderOpening) senderCalls ≡ senderAnswers)
-    × (ledgerRun (start remainderOpening) (leastLengths remainderOpening) remainderCalls ≡ remainderAnswers)
-unfolding ledgerRun start ledgerAnswer ledgerAfter answer left settingsShort metersShort cellsShort anyShort meterWith changed heldFrom ledgerRegistrationCheck registerIn afterRegistration ledgerReceptionCheck setOf at afterReception cellBy cellAt isRun ledgerRunCheck pictureOf afterRun movedBetween ledgerTotalsCheck ledgerCellCheck totalsAt settingsLength metersLength readingsLength cellsLength firstFailed momentOf startOf starts later latestFrom inForce appointed notAfterLast meterNumber registrationCheck bodyCheck inForceCheck receptionCheck isReading readingIn runCheck readCheck totalsInRange cellInRange movedCell overRunDates totOn offOn peakOn totalsOn categoryAt mpanValid checkDigit weightedSum product digit weights sumBelow average remainder annual recordNumber periodEnding periodsPerDay liesWithin windowStart windowEnd between sameCell blank cellOn cellOf cellFrom latest afterDate freshIn freshOf isEnough total isSmart sameFamily anyBelow endMinute quality wattHoursAt carried netCheck listsShort mayNet ledgerNetCheck sideAt netAt onSide chosenBelow sideOf sumOver anyOf signedSum netPeriod markOf netTot netTot7 netOn tabulate orElse firstNumber callNumber fieldsNumber knownNumber headerNumber recordNumberIf contentNumber bandCheck ledgerBandCheck bandAt bandOn bandDates inBand dayTypeValid fillCheck ledgerFillCheck shapeAt weightAt fillAt isOptedOutShape shapeCategory firstFrom weightBy mayFill comesBefore countBefore wholePart remainderOf leftOver filledValue filledValues daysLength daysShort ledgerCoverageCheck coverageAt freshAmong blanksAmong originOf oldestAmong coverageOn
-worked-examples = (refl, refl, refl, refl, refl, refl, refl)
+    (ledgerRun (start exampleOpening (draftOf exampleOpening exampleDraft)) (leastLengths exampleOpening) exampleCalls ≡ exampleAnswers)
+    × (ledgerRun (start netOpening (draftOf netOpening exampleDraft)) (leastLengths netOpening) netCalls ≡ netAnswers)
+    × (ledgerRun (start bandOpening (draftOf bandOpening exampleDraft)) (leastLengths bandOpening) bandCalls ≡ bandAnswers)
+    × (ledgerRun (start fillOpening (draftOf fillOpening exampleDraft)) (leastLengths fillOpening) fillCalls ≡ fillAnswers)
+    × (ledgerRun (start coverageOpening (draftOf coverageOpening exampleDraft)) (leastLengths coverageOpening) coverageCalls ≡ coverageAnswers)
+    × (ledgerRun (start senderOpening (draftOf senderOpening exampleDraft)) (leastLengths senderOpening) senderCalls ≡ senderAnswers)
+    × (ledgerRun (start remainderOpening (draftOf remainderOpening exampleDraft)) (leastLengths remainderOpening) remainderCalls ≡ remainderAnswers)
+    × (ledgerRun (start previewOpening (draftOf previewOpening exampleDraft)) (leastLengths previewOpening) previewCalls ≡ previewAnswers)
+unfolding ledgerRun start ledgerAnswer ledgerAfter answer left settingsShort metersShort cellsShort anyShort meterWith changed heldFrom ledgerRegistrationCheck registerIn afterRegistration ledgerReceptionCheck setOf at afterReception cellBy cellAt isRun ledgerRunCheck pictureOf afterRun movedBetween ledgerTotalsCheck ledgerCellCheck totalsAt settingsLength metersLength readingsLength cellsLength firstFailed momentOf startOf starts later latestFrom inForce appointed notAfterLast meterNumber registrationCheck bodyCheck inForceCheck receptionCheck isReading readingIn runCheck readCheck totalsInRange cellInRange movedCell overRunDates totOn offOn peakOn totalsOn categoryAt mpanValid checkDigit weightedSum product digit weights sumBelow average remainder annual recordNumber periodEnding periodsPerDay liesWithin windowStart windowEnd between sameCell blank cellOn cellOf cellFrom latest afterDate freshIn freshOf isEnough total isSmart sameFamily anyBelow endMinute quality wattHoursAt carried netCheck listsShort mayNet ledgerNetCheck sideAt netAt onSide chosenBelow sideOf sumOver anyOf signedSum netPeriod markOf netTot netTot7 netOn tabulate orElse firstNumber callNumber fieldsNumber knownNumber headerNumber recordNumberIf contentNumber bandCheck ledgerBandCheck bandAt bandOn bandDates inBand dayTypeValid fillCheck ledgerFillCheck shapeAt weightAt fillAt isOptedOutShape shapeCategory firstFrom weightBy mayFill comesBefore countBefore wholePart remainderOf leftOver filledValue filledValues daysLength daysShort ledgerCoverageCheck coverageAt freshAmong blanksAmong originOf oldestAmong coverageOn draftLength draftShort previewCheck rowCheck ledgerPreviewCheck afterPreview ledgerRowCheck rowShown rowWith cellOfEntry flagNumberOf
+worked-examples = (refl, refl, refl, refl, refl, refl, refl, refl)
 
 -- ---- the same on the engine, from its opening on
 
@@ -536,12 +621,12 @@ worked-examples = (refl, refl, refl, refl, refl, refl, refl)
 abbrev pub lentLeast : Opening → List Call → List Item
 lentLeast a calls = map (λ c. record { lent = leastLengths a; call = c }) calls
 
--- in such parts, whatever they hold, the opening is accepted and the calls after it get these answers
+-- in such parts, whatever they hold, and beside such a draft the opening is accepted and the calls after it get these answers
 abbrev pub EngineAnswers : Opening → List Call → List Answer → Type 0
 EngineAnswers a calls answers =
-    (p : Parts) → lengthsOf p ≡ leastLengths a → Accepts p a × (storeAnswers (openedParts p a) (lentLeast a calls) ≡ answers)
+    (p : Parts) → lengthsOf p ≡ leastLengths a → p .draft ≡ exampleDraft → Accepts p a × (storeAnswers (openedParts p a) (lentLeast a calls) ≡ answers)
 
--- all seven examples
+-- all eight examples
 abbrev pub WorkedOnEngine : Type 0
 WorkedOnEngine =
     EngineAnswers exampleOpening exampleCalls exampleAnswers
@@ -551,3 +636,4 @@ WorkedOnEngine =
     × EngineAnswers coverageOpening coverageCalls coverageAnswers
     × EngineAnswers senderOpening senderCalls senderAnswers
     × EngineAnswers remainderOpening remainderCalls remainderAnswers
+    × EngineAnswers previewOpening previewCalls previewAnswers

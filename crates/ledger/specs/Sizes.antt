@@ -24,3 +24,7 @@ cellsLength C T P = T * (C * P)
 -- for each category four rows, each with an entry for a date
 unfoldable pub daysLength : ℕ → ℕ → ℕ
 daysLength C T = 4 * C * T
+
+-- a draft is no part of the store; it has an entry for each category and period of one date
+unfoldable pub draftLength : ℕ → ℕ → ℕ
+draftLength C P = C * P

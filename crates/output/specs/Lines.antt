@@ -4,7 +4,7 @@ use mathlib.Core.Bool.{cond}
 use mathlib.Core.List.{List, [], _∷_, _++_}
 use lib.Dec.{eqb}
 use Rattle.ledger.specs.Method.{letterOf, Cell, Totals}
-use Rattle.ledger.specs.Ledger.{Answer, refused, accepted, moved, totalsAre, cellIs, netIs, bandIs, filledAre, coverageIs}
+use Rattle.ledger.specs.Ledger.{Answer, refused, accepted, moved, totalsAre, cellIs, netIs, bandIs, filledAre, coverageIs, rowIs}
 use Rattle.output.specs.Text.{numberWord, energyWord, signedWord}
 
 abbrev pub newline : List ℕ
@@ -40,7 +40,7 @@ abbrev pub cellText : Cell → List ℕ
 cellText a =
     (32 ∷ letterOf (a .flag) ∷ []) ++ (energyWord (a .value) ++ (numberWord (a .count) ++ (originWord (a .origin) ++ signedWord (a .remainder))))
 
--- the line for an answer to the command; none asks for a net, a band, a fill or a coverage
+-- the line for an answer to the command; none asks for a net, a band, a fill, a coverage or a row
 unfoldable pub answerLine : ℕ → Answer → List ℕ
 answerLine code accepted = acceptedText code ++ newline
 answerLine code (moved m) = acceptedText code ++ (numberWord m ++ newline)
@@ -50,4 +50,5 @@ answerLine code (netIs n) = []
 answerLine code (bandIs b) = []
 answerLine code (filledAre v) = []
 answerLine code (coverageIs v) = []
+answerLine code (rowIs r) = []
 answerLine code (refused number place) = refusedLine code number place

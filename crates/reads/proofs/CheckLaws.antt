@@ -139,3 +139,19 @@ module _ (short : Bool) (dates date : ℕ) (inRange isRun : Bool) (n : ℕ) (e :
   unfolding runCheck readCheck
   rest-decides range run r z a b f =
       rw (first-number (not inRange) 14 a b f) (leaves _ short (leb dates date) false (sym e ∙ z))
+
+-- 9 and 15 as they are found one after the other, and then 14 where it is asked
+module _ (dates date : ℕ) (inRange shown : Bool) {p q n : ℕ} (a : p ≡ cond (leb dates date) 9 0) (b : q ≡ cond (not inRange) 15 0) (e : n ≡ firstNumber p q) where
+  number-is : n ≡ cond false 1 (cond (leb dates date) 9 (cond (not inRange) 15 0))
+  number-is = first-number (leb dates date) 8 a b e
+
+  pub shown-decides : (n ≡ 0 → ⊥) → n ≡ readCheck false dates date inRange shown
+  unfolding readCheck
+  shown-decides some = decides n _ false (leb dates date) (not inRange) number-is some
+
+  pub shown-leaves : n ≡ 0 → (rest : ℕ) → rest ≡ cond (not shown) 14 0 → rest ≡ readCheck false dates date inRange shown
+  unfolding readCheck
+  shown-leaves none rest is = is ∙ leaves _ false (leb dates date) (not inRange) (sym number-is ∙ none)
+
+  pub shown-date : n ≡ 0 → date < dates
+  shown-date none = leb-false _ _ (check-passed (leb dates date) 8 _ (sym number-is ∙ none) .0)

@@ -1,2 +1,3 @@
 -- Laws that the proofs of the reads share.
 pub mod CheckLaws
+pub mod RowLaws

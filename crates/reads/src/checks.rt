@@ -24,7 +24,7 @@ pub fn first_number(first: u64, second: u64) -> u64
 }
 
 // 9: no such date.
-fn date_number(settings: &[u8], date: u64) -> u64
+pub fn date_number(settings: &[u8], date: u64) -> u64
     requires { ⌜ settingsReady (now settings) ≡ true ⌝ }
     ensures { λ r. ⌜ r ≡ cond (leb (datesOf (now (settings .entry))) date) 9 0 ⌝ }
 {
@@ -45,7 +45,7 @@ fn lent_number(settings: &[u8], cells: &[u64], date: u64) -> u64
 }
 
 // 15, by the category alone.
-fn category_number(settings: &[u8], category: u64) -> u64
+pub fn category_number(settings: &[u8], category: u64) -> u64
     requires { ⌜ settingsReady (now settings) ≡ true ⌝ }
     ensures { λ r. ⌜ r ≡ cond (not (totalsInRange (categoriesOf (now (settings .entry))) category)) 15 0 ⌝ }
 {

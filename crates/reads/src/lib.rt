@@ -1,4 +1,4 @@
-// The read of a cell; it only looks at the lent settings and cells. Its checks serve other calls on cells as well.
+// The reads of a cell and of a row; they only look at what they are lent. The cell's checks serve other calls on cells as well.
 use crate::checks::cell_check;
 use store::column::cell_at;
 use store::column::column_of;
@@ -9,6 +9,7 @@ ghost use Rattle.ledger.specs.Calls.{cellVerdict, cellFor};
 ghost use Rattle.store.specs.Outcome.{cellAnswer};
 
 pub mod checks;
+pub mod row;
 
 pub fn read_cell(
     settings: &[u8],

@@ -1,29 +1,29 @@
--- The new row made from sums and counts, the verdict, and what a run leaves: each thing that the code has is brought to the definition's.
+-- The new row made from sums and counts, and what a run leaves or a preview finds: each thing that the code has is brought to the definition's.
 use Prim.Native.Nat.{ℕ, suc, _+_, _*_, _-_, _/_, _%_, _≤_, _<_, zero-le}
-use mathlib.Core.Path.{_≡_, refl, ap, ap₂, _∙_}
-use mathlib.Core.Bool.{Bool, true, false, _&&_, cond}
-use mathlib.Core.List.{List}
+use mathlib.Core.Path.{_≡_, refl, sym, ap, ap₂, _∙_}
+use mathlib.Core.Bool.{cond}
+use mathlib.Core.List.{List, [], _++_}
 use mathlib.Core.Option.{Option}
-use native.Mathlib.Nat.{le-trans}
+use native.Mathlib.Nat.{zero-add, le-trans}
 use native.Mathlib.Numerals.{add-one}
-use native.Mathlib.Omega.{arith}
-use lib.Dec.{leb}
 use lib.Arith.{digits-div, digits-mod}
-use lib.ListN.{length, getD}
+use lib.ListN.{length, getD, take, drop, List·getD-append}
 use borrow.Table.Steps.{cases}
-use borrow.Author.Tests.{leb-false, not-false}
+use borrow.Author.Tests.{leb-true}
 use Rattle.ledger.specs.Method.{wattHours, present, sameFamily}
-use Rattle.ledger.specs.Checks.{runCheck}
-use Rattle.ledger.specs.Ready.{Ready, both}
-use Rattle.ledger.specs.Store.{metersOf, categoriesOf, datesOf, periodsOf, rowLength, categoryOf, dayTypeOf, settingsReady, metersReady, readingsReady, cellsReady, daysReady, readingAt}
+use Rattle.ledger.specs.Ready.{Ready}
+use Rattle.ledger.specs.Sizes.{cellsLength}
+use Rattle.ledger.specs.Store.{metersOf, categoriesOf, datesOf, periodsOf, rowLength, categoryOf, dayTypeOf, cellsReady, readingAt}
 use Rattle.ledger.specs.Table.{tabulate, filling}
-use Rattle.ledger.specs.Calls.{countsFor, tally, familyTally, freshAt, rowAt, Published, asPublished, publish, lastRun, inheritedFrom, carriedEntry, carryOn, movedByRow, settled, newRow, ranFrom, runUnready, runVerdict}
+use Rattle.ledger.specs.Calls.{countsFor, tally, familyTally, freshAt, rowAt, Published, asPublished, Placing, publish, countOnly, lastRun, inheritedFrom, comparedEntry, differing, carriedEntry, Ran, carryOn, movedByRow, settled, newRow, ranFrom, movedFrom, runVerdict, previewVerdict, previewed, overwritten}
 use Rattle.entries.specs.Reading.{reading-bound}
-use Rattle.ledger.proofs.Walks.{row-put, carryOn-same, settled-same}
+use Rattle.ledger.proofs.Walks.{row-put, carryOn-same, settled-same, counted-first, previewed-is}
+use Rattle.ledger.proofs.Choices.{MayRun}
 use Rattle.ledger.proofs.Lists.{length-tabulate, getD-tabulate, sumBelow-cong, sumBelow-times}
-use Rattle.entries.proofs.RowLaws.{filling-below, differing-le}
+use Rattle.entries.proofs.RowLaws.{filling-below, differing-le, differing-ext}
 use Rattle.run_date.specs.Sums.{tallyBelow, Tallied, Bounded, pooledBelow, entryFrom, rowFrom}
 use Rattle.run_date.proofs.Laws.{place-below, category-below, period-below, place-is, counts-together}
+use Rattle.later_dates.proofs.Laws.{part-row, part-is}
 
 -- ---- the new row, from sums and counts
 
@@ -82,62 +82,94 @@ module _ (s m r : List ℕ) (date : ℕ) (known : Ready s) where
           taken k l,
         )
 
--- ---- the verdict
-
-pub parts-ready : (s m r cells days : List ℕ) → runUnready s m r cells days ≡ false →
-    (settingsReady s ≡ true) × (metersReady s m ≡ true) × (readingsReady s r ≡ true) × (cellsReady s cells ≡ true) × (daysReady s days ≡ true)
-unfolding runUnready
-parts-ready s m r cells days h =
-    let t = both (settingsReady s && metersReady s m && readingsReady s r && cellsReady s cells) (daysReady s days) (not-false _ h) in
-    let p = both (settingsReady s && metersReady s m && readingsReady s r) (cellsReady s cells) (t .0) in
-    let q = both (settingsReady s && metersReady s m) (readingsReady s r) (p .0) in
-    let o = both (settingsReady s) (metersReady s m) (q .0) in
-    (o .0, o .1, q .1, p .1, t .1)
-
-zero-number : (a b : Bool) → _≡_ {A = ℕ} (cond a 1 (cond b 9 0)) 0 → (a ≡ false) × (b ≡ false)
-zero-number false false h = (refl, refl)
-zero-number false true h = absurd (omega arith)
-zero-number true b h = absurd (omega arith)
-
--- no check failed: all parts are ready, and the date is one
-pub accepted-run : (s m r cells days : List ℕ) (date : ℕ) → runVerdict s m r cells days date .number ≡ 0 →
-    (settingsReady s ≡ true) × (metersReady s m ≡ true) × (readingsReady s r ≡ true) × (cellsReady s cells ≡ true) × (daysReady s days ≡ true) × (date < datesOf s)
-unfolding runVerdict runCheck
-accepted-run s m r cells days date h =
-    let p = zero-number (runUnready s m r cells days) (leb (datesOf s) date) h in
-    let parts = parts-ready s m r cells days (p .0) in
-    (parts .0, parts .1, parts .2, parts .3, parts .4, leb-false _ _ (p .1))
+-- ---- refusals have no place
 
 pub run-place : (s m r cells days : List ℕ) (date : ℕ) → runVerdict s m r cells days date .place ≡ 0
 unfolding runVerdict
 run-place s m r cells days date = refl
 
--- ---- what a run leaves
+pub preview-place : (s m r cells days draft : List ℕ) (date : ℕ) → previewVerdict s m r cells days draft date .place ≡ 0
+unfolding previewVerdict
+preview-place s m r cells days draft date = refl
+
+-- ---- what a run leaves, and what a preview finds
 
 pub moved-by-le : (n : ℕ) (cells : List ℕ) (d : ℕ) (new : ℕ → ℕ) (moved : ℕ) → moved ≡ movedByRow n cells d new → moved ≤ n
 unfolding movedByRow
 moved-by-le n cells d new moved is = rw is (differing-le n _ new)
 
--- the walk over later dates starts from the row just written
-module _ (s : List ℕ) (new : ℕ → ℕ) (cells days : List ℕ) (date : ℕ) (fit : date * rowLength s + rowLength s ≤ length cells) where
-  pub settles : (t at w : ℕ) (inherited inherited′ cells′ days′ : List ℕ) (moved : ℕ) → t ≡ dayTypeOf s date → at ≡ date * rowLength s → w ≡ rowLength s →
-      asPublished cells′ days′ ≡ publish s date (tabulate (rowLength s) new) (asPublished cells days) →
-      moved ≡ movedByRow (rowLength s) cells date new →
-      inherited′ ≡ filling w (λ k. carriedEntry (getD cells′ (at + k) 0)) inherited →
-      carryOn publish s t (datesOf s - (date + 1)) (λ k. getD inherited′ k 0) (date + 1) (asPublished cells′ days′) moved
-      ≡ settled publish s new (asPublished cells days) date
-  unfolding settled rowAt
-  settles t at w inherited inherited′ cells′ days′ moved day start width put is carried =
-      let n : ℕ = rowLength s in
-      rw (day, add-one date)
-      (carryOn-same publish s (dayTypeOf s date) (datesOf s - suc date) (λ k. getD inherited′ k 0) (λ k. carriedEntry (new k)) (suc date) (asPublished cells′ days′) moved
-      (λ k l.
-      rw (carried, start, width) (filling-below (λ j. carriedEntry (getD cells′ (date * n + j) 0)) inherited n k l)
-      ∙ ap carriedEntry
-      (ap (λ (p : Published). getD (p .cells) (date * n + k) 0) put ∙ row-put n date (tabulate n new) cells (length-tabulate n new) fit k l ∙ getD-tabulate n new k l))
-      ∙ ap₂ (carryOn publish s (dayTypeOf s date) (datesOf s - suc date) (λ k. carriedEntry (new k)) (suc date)) put is)
+-- what the next date takes over from a row that stands at `at`
+pub carried-on : (n at w : ℕ) (source inherited inherited′ : List ℕ) (new : ℕ → ℕ) → w ≡ n →
+    inherited′ ≡ filling w (λ k. carriedEntry (getD source (at + k) 0)) inherited → ((k : ℕ) → k < n → getD source (at + k) 0 ≡ new k) →
+    (k : ℕ) → k < n → getD inherited′ k 0 ≡ carriedEntry (new k)
+carried-on n at w source inherited inherited′ new width is stands k l =
+    rw (is, width) (filling-below (λ j. carriedEntry (getD source (at + j) 0)) inherited n k l) ∙ ap carriedEntry (stands k l)
+
+-- the row that a run wrote stands among the cells
+pub written-at : (s : List ℕ) (new : ℕ → ℕ) (cells days : List ℕ) (date : ℕ) → date * rowLength s + rowLength s ≤ length cells → (at : ℕ) → at ≡ date * rowLength s →
+    (cells′ days′ : List ℕ) → asPublished cells′ days′ ≡ publish s date (tabulate (rowLength s) new) (asPublished cells days) →
+    (k : ℕ) → k < rowLength s → getD cells′ (at + k) 0 ≡ new k
+unfolding rowAt
+written-at s new cells days date fit at start cells′ days′ put k l =
+    let n : ℕ = rowLength s in
+    rw start
+    (ap (λ (p : Published). getD (p .cells) (date * n + k) 0) put ∙ row-put n date (tabulate n new) cells (length-tabulate n new) fit k l ∙ getD-tabulate n new k l)
+
+-- and one that was drawn is the draft's front
+pub drawn-at : (n : ℕ) (row : List ℕ) (new : ℕ → ℕ) → row ≡ tabulate n new → (k : ℕ) → k < n → getD row (0 + k) 0 ≡ new k
+drawn-at n row new is k l = rw (zero-add k, is) (getD-tabulate n new k l)
+
+-- the walk over later dates starts from the row just written, or drawn
+pub settles : (place : Placing) (s : List ℕ) (new : ℕ → ℕ) (p : Published) (date t : ℕ) (inherited′ : List ℕ) (p′ : Published) (moved : ℕ) → t ≡ dayTypeOf s date →
+    p′ ≡ place s date (tabulate (rowLength s) new) p → moved ≡ movedByRow (rowLength s) (p .cells) date new →
+    ((k : ℕ) → k < rowLength s → getD inherited′ k 0 ≡ carriedEntry (new k)) →
+    carryOn place s t (datesOf s - (date + 1)) (λ k. getD inherited′ k 0) (date + 1) p′ moved ≡ settled place s new p date
+unfolding settled
+settles place s new p date t inherited′ p′ moved day put is carried =
+    rw (day, add-one date)
+    (carryOn-same place s (dayTypeOf s date) (datesOf s - suc date) (λ k. getD inherited′ k 0) (λ k. carriedEntry (new k)) (suc date) p′ moved carried
+    ∙ ap₂ (carryOn place s (dayTypeOf s date) (datesOf s - suc date) (λ k. carriedEntry (new k)) (suc date)) put is)
+
+-- a row drawn over a copy of the published one is counted against that
+pub drawn-moved : (n d at w : ℕ) (cells row row′ : List ℕ) (new : ℕ → ℕ) (moved : ℕ) → at ≡ d * n → w ≡ n → d * n + n ≤ length cells →
+    row′ ≡ overwritten (take w (drop at cells)) row → moved ≡ differing n (λ k. comparedEntry (getD row′ k 0)) new → moved ≡ movedByRow n cells d new
+unfolding movedByRow overwritten
+drawn-moved n d at w cells row row′ new moved start width fit copied is =
+    is
+    ∙ differing-ext n _ (λ k. comparedEntry (rowAt n cells d k)) new new
+    (λ k l.
+    ap comparedEntry
+    (ap (λ (xs : List ℕ). getD xs k 0) copied
+    ∙ List·getD-append (take w (drop at cells)) _ 0 k (rw (part-is n d at w cells start width fit) l)
+    ∙ part-row n d at w cells start width k l))
+    (λ k l. refl)
 
 pub ran-is : (s m r cells days : List ℕ) (new : ℕ → ℕ) (date : ℕ) → ((k : ℕ) → k < rowLength s → new k ≡ newRow s m r cells date k) →
     settled publish s new (asPublished cells days) date ≡ ranFrom s m r cells days date
 unfolding ranFrom
 ran-is s m r cells days new date same = settled-same publish s new (newRow s m r cells date) (asPublished cells days) date same
+
+pub moved-is : (s m r cells : List ℕ) (new : ℕ → ℕ) (date : ℕ) → ((k : ℕ) → k < rowLength s → new k ≡ newRow s m r cells date k) →
+    settled countOnly s new (asPublished cells []) date .moved ≡ movedFrom s m r cells date
+unfolding movedFrom
+moved-is s m r cells new date same =
+    ap (λ (x : Ran). x .moved) (settled-same countOnly s new (newRow s m r cells date) (asPublished cells []) date same)
+
+-- ---- a preview and the run, on any store that may be run
+
+module _ (s m r cells days : List ℕ) (date : ℕ) (ok : MayRun s m r cells days date) where
+  room : datesOf s * rowLength s ≤ length cells
+  unfolding cellsReady cellsLength rowLength
+  room = leb-true _ _ (ok .3)
+
+  pub foreseen : movedFrom s m r cells date ≡ ranFrom s m r cells days date .moved
+  foreseen = counted-first s m r cells days date (ok .5) room
+
+  -- what was drawn, before the rest of the draft
+  pub drawn-front : (row draft : List ℕ) (n : ℕ) → row ≡ tabulate (rowLength s) (newRow s m r cells date) → n ≡ rowLength s →
+      row ++ drop n draft ≡ overwritten (previewed s m r cells days date) draft
+  unfolding overwritten
+  drawn-front row draft n is wide =
+      let same : row ≡ previewed s m r cells days date = is ∙ sym (previewed-is s m r cells days date (ok .5) room) in
+      let long : n ≡ length (previewed s m r cells days date) = wide ∙ sym (length-tabulate (rowLength s) (newRow s m r cells date)) ∙ ap length (sym is ∙ same) in
+      rw (same, long)

@@ -1,12 +1,13 @@
-// The run of a date: its shapes from the readings held, and what later dates take over from them.
+// The run of a date: its shapes from the readings held, and what later dates take over from them. And its preview.
 mod own_row;
+pub mod preview;
+mod sources;
 
 use crate::own_row::write_date;
+use crate::sources::gather;
 use entries::entry::BLANK_ENTRY;
-use later_dates::predecessor::inherit;
 use later_dates::write::write_later;
 use later_rows::carry_row;
-use run_date::sums::tally_date;
 use settings::category::day_type;
 use settings::header::date_count;
 use store::lent::run_unready;
@@ -94,8 +95,16 @@ fn run_with(
     requires { ⌜ ((k : ℕ) → k < rowLength (now settings) → (getD (now sums) k 0 ≡ 0) × (getD (now counts) k 0 ≡ 0) × (getD (now inherited) k 0 ≡ entryOf blank)) ⌝ }
     ensures { λ r. ⌜ asRan (now (cells .exit)) (now (days .exit)) r ≡ ranFrom (now (settings .entry)) (now (meters .entry)) (now (readings .entry)) (now (cells .entry)) (now (days .entry)) date ⌝ }
 {
-    tally_date(settings, meters, readings, date, sums, counts);
-    inherit(settings, &cells[..], date, inherited);
+    gather(
+        settings,
+        meters,
+        readings,
+        &cells[..],
+        date,
+        sums,
+        counts,
+        inherited,
+    );
     settle(settings, sums, counts, inherited, cells, days, date)
 }
 

@@ -4,7 +4,8 @@ use borrow.Author.Needs.{needs}
 use Rattle.ledger.specs.Ledger.{moved}
 use Rattle.ledger.specs.Calls.{Ran, runVerdict}
 use Rattle.ledger.proofs.Verdicts.{refused-is, kept-is, given-is, after-is}
-use Rattle.run.proofs.Laws.{accepted-run, run-place}
+use Rattle.ledger.proofs.Choices.{accepted-run}
+use Rattle.run.proofs.Laws.{run-place}
 use Rattle.run.proofs.run.Statement.{statement}
 use Rattle.run.proofs.run.Tie as tie
 

@@ -6,7 +6,7 @@ use borrow.Author.Tests.{le-leb, lt-leb}
 use Rattle.ledger.specs.Ready.{header-there}
 use Rattle.ledger.specs.Checks.{runCheck}
 use Rattle.ledger.specs.Calls.{runUnready, runVerdict}
-use Rattle.run.proofs.Laws.{parts-ready}
+use Rattle.ledger.proofs.Choices.{parts-ready}
 use Rattle.run.proofs.run_number.Statement.{statement}
 use Rattle.run.proofs.run_number.Tie as tie
 

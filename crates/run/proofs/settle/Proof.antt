@@ -6,9 +6,10 @@ use borrow.Author.Needs.{needs}
 use lib.ListN.{length}
 use Rattle.ledger.specs.Ready.{ready, row-bounds}
 use Rattle.ledger.specs.Store.{rowLength}
+use Rattle.ledger.specs.Calls.{asPublished, publish}
 use Rattle.store.proofs.RowLaws.{row-fits, still-ready, days-still-ready}
 use Rattle.later_dates.proofs.Laws.{within, wide}
-use Rattle.run.proofs.Laws.{moved-by-le, settles}
+use Rattle.run.proofs.Laws.{moved-by-le, carried-on, written-at, settles}
 use Rattle.run.proofs.settle.Statement.{statement}
 use Rattle.run.proofs.settle.Tie as tie
 
@@ -97,8 +98,9 @@ returns c =
     let a = start w .args in
     let S = a .settings .now in
     l .write-later .ensures
-    ∙ settles S _ (a .cells .now) (a .days .now) (a .date) (row w) _ _ _ (a .inherited .now) (k .carry-row .last .1 .1 .1 .0) (w .write-date .last .1 .1 .1 .1 .0) (w .write-date .last .1 .1 .1 .1 .1 .0) (w .write-date .result)
-    (t .day-type .ensures) (at r) (r .before .before .row-length .ensures) (w .write-date .ensures .0) (w .write-date .ensures .1) (k .carry-row .ensures)
+    ∙ settles publish S _ (asPublished (a .cells .now) (a .days .now)) (a .date) _ (k .carry-row .last .1 .1 .1 .0) _ (w .write-date .result) (t .day-type .ensures) (w .write-date .ensures .0) (w .write-date .ensures .1)
+    (carried-on (rowLength S) _ _ (w .write-date .last .1 .1 .1 .1 .0) (a .inherited .now) (k .carry-row .last .1 .1 .1 .0) _ (r .before .before .row-length .ensures) (k .carry-row .ensures)
+    (written-at S _ (a .cells .now) (a .days .now) (a .date) (row w) _ (at r) (w .write-date .last .1 .1 .1 .1 .0) (w .write-date .last .1 .1 .1 .1 .1 .0) (w .write-date .ensures .0)))
 
 pub settle-spec : {M : Type 1} → statement M
 settle-spec =

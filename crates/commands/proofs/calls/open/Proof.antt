@@ -1,6 +1,6 @@
 -- `calls::open` meets its contract: the program's parts are lent where they suffice, else empty ones, whose loan leaves the program's.
 use native.Mathlib.Omega.{arith}
-use mathlib.Core.Path.{_≡_, sym, _∙_}
+use mathlib.Core.Path.{_≡_, refl, sym, _∙_}
 use denote.Ref.{now}
 use Rattle.ledger.specs.Ledger.{Opening}
 use Rattle.ledger.specs.Engine.{Parts}
@@ -65,7 +65,7 @@ returns c =
     let enough = sym (suffices s) ∙ then1 c .if1 .taken in
     let opened = rw (s .before .opening-operands .ensures) at (t .«open» .ensures) in
     let put = c .before .before .append-outcome .ensures in
-    (lent-line (start s .args .capacity) (parts s) (asked s) enough opened (put .0), (lent-parts (start s .args .capacity) (parts s) (asked s) enough opened, put .1))
+    (lent-line (start s .args .capacity) (parts s) (asked s) enough opened (put .0), (lent-parts (start s .args .capacity) (parts s) (asked s) refl enough opened, put .1))
 
 slice-relend-prefix-open : tie.Need-slice-relend-prefix-open
 slice-relend-prefix-open c = search needs
@@ -128,7 +128,7 @@ returns-2 c =
     let short = sym (suffices s) ∙ else1 c .if1 .left in
     let opened = rw (s .before .opening-operands .ensures) at (t .ensures) in
     let put = c .before .before .append-outcome2 .ensures in
-    let kept = kept-parts (start s .args .capacity) (parts s) (asked s) short
+    let kept = kept-parts (start s .args .capacity) (parts s) (asked s) refl short
     (none-before (t .last .0) _ (omega (arith, t .kept)))
     (none-before (t .last .1 .0) _ (omega (arith, t .kept)))
     (none-before (t .last .1 .1 .0) _ (omega (arith, t .kept)))

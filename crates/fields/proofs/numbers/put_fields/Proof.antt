@@ -3,14 +3,14 @@ use Prim.Native.Nat.{_-_, _≤_}
 use mathlib.Core.Path.{_≡_, refl, sym}
 use native.Mathlib.Omega.{arith}
 use lib.IntN.{pos}
-use lib.ListN.{length, getD}
+use lib.ListN.{getD}
 use borrow.Author.Needs.{needs, sfits-of}
 use mir.Syntax.{w64}
 use mir.Val.{toZ, ofZ}
 use mir.Facts.{toZ-ofZ}
 use Rattle.ledger.proofs.Lists.{filling-zero, fill, filled-long}
 use Rattle.ledger.specs.Table.{filling}
-use Rattle.fields.proofs.Laws.{front-filled}
+use Rattle.ledger.proofs.Lists.{front-filled}
 use Rattle.fields.proofs.numbers.put_fields.Statement.{statement}
 use Rattle.fields.proofs.numbers.put_fields.Tie as tie
 

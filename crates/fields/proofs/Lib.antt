@@ -1,2 +1,0 @@
--- Laws that the proofs of an answer as numbers share.
-pub mod Laws

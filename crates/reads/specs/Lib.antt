@@ -1,0 +1,2 @@
+-- What a row is asked.
+pub mod Row
