@@ -1,15 +1,20 @@
 -- A row: what holds where its checks pass, and that the stretch handed back is the definition's.
 use Prim.Native.Nat.{ℕ, _+_, _*_, _≤_, _<_}
-use mathlib.Core.Path.{_≡_}
+use mathlib.Core.Path.{_≡_, refl}
 use mathlib.Core.Logic.{_≢_}
 use mathlib.Core.Bool.{true, false, and-eq-true-iff}
-use mathlib.Core.List.{List}
+use mathlib.Core.List.{List, []}
 use native.Mathlib.Omega.{arith}
 use native.Mathlib.Nat.{suc-mul, mul-le-mul-left, mul-le-mul-right}
 use borrow.Author.Tests.{leb-false, ltb-true, ltb-false, eq-eqb, ne-eqb, not-false}
+use lib.Dec.{eqb}
 use lib.ListN.{length, take, drop}
+use borrow.Table.Steps.{cases}
 use Rattle.ledger.specs.Ready.{ready, periods-bound, row-bounds}
-use Rattle.ledger.specs.Checks.{readCheck, totalsInRange, rowCheck}
+use Rattle.ledger.specs.Checks.{Verdict, readCheck, totalsInRange, RowCall, rowCheck}
+use Rattle.ledger.specs.Ledger.{answer, left, rowIs}
+use Rattle.ledger.specs.Engine.{cellsOf}
+use Rattle.store.specs.Outcome.{rowAnswer}
 use Rattle.ledger.specs.Store.{categoriesOf, datesOf, periodsOf, rowLength, settingsReady, cellsReady}
 use Rattle.ledger.specs.Calls.{stretch, cellsUnready, draftUnready, draftStart, publishedStart, rowVerdict, rowFor}
 use Rattle.ledger.proofs.Choices.{check-passed}
@@ -21,6 +26,19 @@ use Rattle.reads.proofs.CheckLaws.{ReadAccepted}
 pub parts-there : (s cells : List ℕ) → cellsUnready s cells ≡ false → (settingsReady s ≡ true) × (cellsReady s cells ≡ true)
 unfolding cellsUnready
 parts-there s cells e = and-eq-true-iff _ _ .0 (not-false _ e)
+
+-- the number and the row tell the answer
+told : (v : Verdict) → v .place ≡ 0 → (entries : List ℕ) (number : ℕ) (row : List ℕ) → number ≡ v .number → row ≡ left v [] entries →
+    rowAnswer number row ≡ answer v (rowIs (cellsOf entries))
+unfolding answer left
+told v no-place entries number row is given = rw (is, given) (cases (eqb (v .number) 0) (λ q. rw q) (λ q. rw (q, no-place)))
+
+pub row-meets : (s cells draft : List ℕ) (a : RowCall) (number : ℕ) (row : List ℕ) → number ≡ rowVerdict s cells draft a .number →
+    row ≡ left (rowVerdict s cells draft a) [] (rowFor s cells draft a) →
+    (row ≡ left (rowVerdict s cells draft a) [] (rowFor s cells draft a))
+    × ((number ≡ rowVerdict s cells draft a .number) × (rowAnswer number row ≡ answer (rowVerdict s cells draft a) (rowIs (cellsOf (rowFor s cells draft a)))))
+row-meets s cells draft a number row is given =
+    (given, (is, told (rowVerdict s cells draft a) (unfold rowVerdict in refl) (rowFor s cells draft a) number row is given))
 
 -- where a row starts is far below 2 ^ 64
 pub starts-small : (s : List ℕ) (d c : ℕ) → settingsReady s ≡ true → d < datesOf s → c < categoriesOf s → d * rowLength s + draftStart s c < 18446744073709551616

@@ -14,9 +14,11 @@ ghost use mathlib.Core.List.{[]};
 ghost use Prim.Native.Nat.{_<_};
 ghost use lib.Dec.{eqb};
 ghost use Rattle.ledger.specs.Checks.{readCheck, totalsInRange};
-ghost use Rattle.ledger.specs.Ledger.{left};
+ghost use Rattle.ledger.specs.Ledger.{answer, rowIs, left};
 ghost use Rattle.ledger.specs.Store.{categoriesOf, datesOf, rowLength, settingsReady, cellsReady, isRunAt};
 ghost use Rattle.ledger.specs.Calls.{draftStart, publishedStart, rowVerdict, rowFor};
+ghost use Rattle.ledger.specs.Engine.{cellsOf};
+ghost use Rattle.store.specs.Outcome.{rowAnswer};
 ghost use Rattle.reads.specs.Row.{rowCall};
 
 // 9 and 15, and 14 of a published row.
@@ -84,6 +86,7 @@ pub fn read_row<'a>(
 ) -> &'a [u64]
     ensures { λ r. ⌜ now r ≡ left (rowVerdict (now (settings .entry)) (now (cells .entry)) (now (draft .entry)) (rowCall date category «from_draft» (now (draft .entry)))) [] (rowFor (now (settings .entry)) (now (cells .entry)) (now (draft .entry)) (rowCall date category «from_draft» (now (draft .entry)))) ⌝ }
     ensures { λ r. ⌜ now (number .exit) ≡ rowVerdict (now (settings .entry)) (now (cells .entry)) (now (draft .entry)) (rowCall date category «from_draft» (now (draft .entry))) .number ⌝ }
+    ensures { λ r. ⌜ rowAnswer (now (number .exit)) (now r) ≡ answer (rowVerdict (now (settings .entry)) (now (cells .entry)) (now (draft .entry)) (rowCall date category «from_draft» (now (draft .entry)))) (rowIs (cellsOf (rowFor (now (settings .entry)) (now (cells .entry)) (now (draft .entry)) (rowCall date category «from_draft» (now (draft .entry)))))) ⌝ }
 {
     let failed = row_number(settings, cells, draft, date, category, from_draft);
     *number = failed;

@@ -1,19 +1,19 @@
 -- The new row made from sums and counts, and what a run leaves or a preview finds: each thing that the code has is brought to the definition's.
 use Prim.Native.Nat.{ℕ, suc, _+_, _*_, _-_, _/_, _%_, _≤_, _<_, zero-le}
 use mathlib.Core.Path.{_≡_, refl, sym, ap, ap₂, _∙_}
-use mathlib.Core.Bool.{cond}
+use mathlib.Core.Bool.{true, cond}
 use mathlib.Core.List.{List, [], _++_}
 use mathlib.Core.Option.{Option}
 use native.Mathlib.Nat.{zero-add, le-trans}
 use native.Mathlib.Numerals.{add-one}
 use lib.Arith.{digits-div, digits-mod}
-use lib.ListN.{length, getD, take, drop, List·getD-append}
+use lib.ListN.{length, getD, take, drop, replicate, getD-replicate, List·getD-append}
 use borrow.Table.Steps.{cases}
 use borrow.Author.Tests.{leb-true}
-use Rattle.ledger.specs.Method.{wattHours, present, sameFamily}
-use Rattle.ledger.specs.Ready.{Ready}
+use Rattle.ledger.specs.Method.{wattHours, present, sameFamily, blank}
+use Rattle.ledger.specs.Ready.{Ready, ready, row-bounds}
 use Rattle.ledger.specs.Sizes.{cellsLength}
-use Rattle.ledger.specs.Store.{metersOf, categoriesOf, datesOf, periodsOf, rowLength, categoryOf, dayTypeOf, cellsReady, readingAt}
+use Rattle.ledger.specs.Store.{metersOf, categoriesOf, datesOf, periodsOf, rowLength, categoryOf, dayTypeOf, settingsReady, cellsReady, readingAt, countAndOrigin, entryOf}
 use Rattle.ledger.specs.Table.{tabulate, filling}
 use Rattle.ledger.specs.Calls.{countsFor, tally, familyTally, freshAt, rowAt, Published, asPublished, Placing, publish, countOnly, lastRun, inheritedFrom, comparedEntry, differing, carriedEntry, Ran, carryOn, movedByRow, settled, newRow, ranFrom, movedFrom, runVerdict, previewVerdict, previewed, overwritten}
 use Rattle.entries.specs.Reading.{reading-bound}
@@ -81,6 +81,28 @@ module _ (s m r : List ℕ) (date : ℕ) (known : Ready s) where
           place-is s known k,
           taken k l,
         )
+
+-- ---- the rows lent
+
+blank-is : _≡_ {A = ℕ} 2147483648 (entryOf blank)
+unfolding entryOf countAndOrigin blank
+blank-is = refl
+
+-- rows of 6,144 places are long enough for any store, two of them empty, one blank
+abbrev emptyRow : List ℕ
+emptyRow = replicate 6144 0
+
+abbrev blankRow : List ℕ
+blankRow = replicate 6144 2147483648
+
+pub rows-there : (s : List ℕ) → settingsReady s ≡ true →
+    ((rowLength s ≤ 6144) × (rowLength s ≤ 6144) × (rowLength s ≤ 6144))
+    × ((k : ℕ) → k < rowLength s → (getD emptyRow k 0 ≡ 0) × (getD emptyRow k 0 ≡ 0) × (getD blankRow k 0 ≡ entryOf blank))
+rows-there s opened =
+    let small = row-bounds s (ready s opened) .1 in (
+      (small, small, small),
+      λ k l. (getD-replicate 6144 k 0 0 (le-trans l small), getD-replicate 6144 k 0 0 (le-trans l small), getD-replicate 6144 k 2147483648 0 (le-trans l small) ∙ blank-is),
+    )
 
 -- ---- refusals have no place
 

@@ -1,10 +1,13 @@
 -- What each call hands out, as the ledger's answer: the scope paper's number and values for each case.
 use Prim.Native.Nat.{ℕ}
+use mathlib.Core.Bool.{cond}
 use mathlib.Core.List.{List}
+use lib.Dec.{eqb}
 use lib.IntN.{ℤ}
 use lib.ListN.{take}
 use Rattle.ledger.specs.Method as method
-use Rattle.ledger.specs.Ledger.{Answer, refused, accepted, moved, totalsAre, cellIs, netIs, bandIs, filledAre, coverageIs}
+use Rattle.ledger.specs.Ledger.{Answer, refused, accepted, moved, totalsAre, cellIs, netIs, bandIs, filledAre, coverageIs, rowIs}
+use Rattle.ledger.specs.Engine.{cellsOf}
 use Rattle.entries.specs.Cell.{cellMeant}
 use Rattle.store.specs.declared.outcome.Outcome.{Outcome}
 use Rattle.store.specs.declared.outcome.Outcome.the-variants as outcome
@@ -77,3 +80,7 @@ coverageMeant c =
 abbrev pub coverageAnswer : CoverageOutcome → Answer
 coverageAnswer (coverage.Coverage c) = coverageIs (coverageMeant c)
 coverageAnswer (coverage.Refused number place) = refused number place
+
+-- a row is handed back as it stands; the number lent with it tells whether it was refused
+abbrev pub rowAnswer : ℕ → List ℕ → Answer
+rowAnswer number row = cond (eqb number 0) (rowIs (cellsOf row)) (refused number 0)

@@ -9,7 +9,7 @@ read-row-requires : tie.Need-read-row-requires
 read-row-requires c κs = search needs
 
 returns : tie.Need-returns
-returns c = (ap length (c .read-row .ensures .0), c .read-row .ensures .1)
+returns c = (ap length (c .read-row .ensures .0), c .read-row .ensures .1 .0)
 
 pub jihoweka-read-row-spec : {M : Type 1} → statement M
 jihoweka-read-row-spec = tie.close (tie.spec read-row-requires returns)

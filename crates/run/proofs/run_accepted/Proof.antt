@@ -1,21 +1,11 @@
 -- `run::run_accepted` meets its contract: the rows made for the run are long enough for any store, and empty.
-use Prim.Native.Nat.{ℕ}
-use mathlib.Core.Path.{_≡_, refl, _∙_}
 use borrow.Author.Needs.{needs}
-use lib.ListN.{getD-replicate}
-use Rattle.ledger.specs.Ready.{ready, row-bounds}
-use native.Mathlib.Nat.{le-trans}
-use Rattle.ledger.specs.Method.{blank}
-use Rattle.ledger.specs.Store.{countAndOrigin, entryOf}
+use Rattle.run.proofs.Laws.{rows-there}
 use Rattle.run.proofs.run_accepted.Statement.{statement}
 use Rattle.run.proofs.run_accepted.Tie as tie
 
 abbrev start : tie.After-inherited → tie.Start
 start c = c .before .before .before .before .before .before .before .before .before .before
-
-blank-is : _≡_ {A = ℕ} 2147483648 (entryOf blank)
-unfolding entryOf countAndOrigin blank
-blank-is = refl
 
 slice-aggregate-run-with : tie.Need-slice-aggregate-run-with
 slice-aggregate-run-with c = search needs
@@ -27,16 +17,7 @@ slice-aggregate-run-with-3 : tie.Need-slice-aggregate-run-with-3
 slice-aggregate-run-with-3 c = search needs
 
 run-with-requires : tie.Need-run-with-requires
-run-with-requires c κs =
-    let s = start c in
-    let S = s .args .settings .now in
-    let small = row-bounds S (ready S (s .pre .0)) .1 in (
-      s .pre,
-      (
-        (small, small, small),
-        λ k l. (getD-replicate 6144 k 0 0 (le-trans l small), getD-replicate 6144 k 0 0 (le-trans l small), getD-replicate 6144 k 2147483648 0 (le-trans l small) ∙ blank-is),
-      ),
-    )
+run-with-requires c κs = let s = start c in (s .pre, rows-there (s .args .settings .now) (s .pre .0))
 
 same-length : tie.Need-same-length
 same-length c = search needs

@@ -9,7 +9,7 @@ use Rattle.ledger.specs.Calls.{rowVerdict}
 use Rattle.ledger.proofs.Verdicts.{kept-is, after-is}
 use Rattle.reads.specs.Row.{rowCall}
 use Rattle.reads.proofs.CheckLaws.{ReadAccepted}
-use Rattle.reads.proofs.RowLaws.{row-passed, within-cells, within-draft, published-row, draft-row}
+use Rattle.reads.proofs.RowLaws.{row-passed, within-cells, within-draft, published-row, draft-row, row-meets}
 use Rattle.reads.proofs.row.read_row.Statement.{statement}
 use Rattle.reads.proofs.row.read_row.Tie as tie
 
@@ -51,7 +51,7 @@ returns c =
     let n = c .before .before in
     let a = start n .args in
     let v = rowVerdict (a .settings .now) (a .cells .now) (a .draft .now) (rowCall (a .date) (a .category) (a .from-draft) (a .draft .now)) in
-    (kept-is v _ (n .row-number .ensures) _ _ (c .before .if1 .taken), n .row-number .ensures)
+    row-meets _ _ _ _ _ _ (n .row-number .ensures) (kept-is v _ (n .row-number .ensures) _ _ (c .before .if1 .taken))
 
 period-count-requires : tie.Need-period-count-requires
 period-count-requires c κs = accepted c .0 .opened
@@ -81,11 +81,10 @@ returns-2 c =
     let n = p .before .before in
     let a = start n .args in
     let v = rowVerdict (a .settings .now) (a .cells .now) (a .draft .now) (rowCall (a .date) (a .category) (a .from-draft) (a .draft .now)) in
-    let width : o .published-start .result + p .period-count .result - o .published-start .result ≡ periodsOf (a .settings .now) = omega (arith, p .period-count .ensures) in (
-      published-row (a .settings .now) (a .cells .now) (a .draft .now) (a .date) (a .category) (a .from-draft) _ _ (o .published-start .ensures) width (o .before .if2 .taken)
-          ∙ after-is v _ (n .row-number .ensures) _ _ (p .before .if1 .left),
-      n .row-number .ensures,
-    )
+    let width : o .published-start .result + p .period-count .result - o .published-start .result ≡ periodsOf (a .settings .now) = omega (arith, p .period-count .ensures) in
+    row-meets _ _ _ _ _ _ (n .row-number .ensures)
+    (published-row (a .settings .now) (a .cells .now) (a .draft .now) (a .date) (a .category) (a .from-draft) _ _ (o .published-start .ensures) width (o .before .if2 .taken)
+    ∙ after-is v _ (n .row-number .ensures) _ _ (p .before .if1 .left))
 
 draft-start-requires : tie.Need-draft-start-requires
 draft-start-requires c κs = let ok = accepted (c .before .before) .0 in (ok .opened, ok .category)
@@ -112,11 +111,10 @@ returns-3 c =
     let n = p .before .before in
     let a = start n .args in
     let v = rowVerdict (a .settings .now) (a .cells .now) (a .draft .now) (rowCall (a .date) (a .category) (a .from-draft) (a .draft .now)) in
-    let width : o .draft-start .result + p .period-count .result - o .draft-start .result ≡ periodsOf (a .settings .now) = omega (arith, p .period-count .ensures) in (
-      draft-row (a .settings .now) (a .cells .now) (a .draft .now) (a .date) (a .category) (a .from-draft) _ _ (o .draft-start .ensures) width (o .before .if2 .left)
-          ∙ after-is v _ (n .row-number .ensures) _ _ (p .before .if1 .left),
-      n .row-number .ensures,
-    )
+    let width : o .draft-start .result + p .period-count .result - o .draft-start .result ≡ periodsOf (a .settings .now) = omega (arith, p .period-count .ensures) in
+    row-meets _ _ _ _ _ _ (n .row-number .ensures)
+    (draft-row (a .settings .now) (a .cells .now) (a .draft .now) (a .date) (a .category) (a .from-draft) _ _ (o .draft-start .ensures) width (o .before .if2 .left)
+    ∙ after-is v _ (n .row-number .ensures) _ _ (p .before .if1 .left))
 
 pub read-row-spec : {M : Type 1} → statement M
 read-row-spec =
