@@ -9,12 +9,13 @@ use native.Mathlib.Omega.{arith}
 use lib.Dec.{eqb}
 use lib.ListN.{length, take, length-take}
 use borrow.Table.Steps.{cases}
-use borrow.Author.Tests.{eqb-true, eqb-false, eq-eqb, ne-eqb, le-ltb, ltb-false, leb-true, not-false}
+use borrow.Author.Tests.{eqb-true, eqb-false, eq-eqb, ne-eqb, le-ltb, ltb-false, not-false}
 use Rattle.ledger.specs.Method.{Cell, blank}
 use Rattle.ledger.specs.Checks.{Verdict, runCheck, readCheck, totalsInRange, PreviewCall, RowCall, isPublished, previewCheck, rowCheck}
-use Rattle.ledger.specs.Sizes.{cellsLength, draftLength}
+use Rattle.ledger.specs.Sizes.{draftLength}
 use Rattle.ledger.specs.Ledger.{categories, dates, periods, Ledger, Call, register, receive, run, readTotals, readCell, readNet, searchBand, fillHole, readCoverage, preview, readRow, Answer, moved, cellIs, rowIs, left, Lengths, anyShort, pictureOf, cellAt, isRun, afterRun, ledgerRunCheck, draftShort, ledgerPreviewCheck, afterPreview, ledgerRowCheck, rowShown, ledgerAnswer, ledgerAfter}
-use Rattle.ledger.specs.Store.{datesOf, rowLength, cellsReady}
+use Rattle.ledger.specs.Ready.{cells-long}
+use Rattle.ledger.specs.Store.{rowLength}
 use Rattle.ledger.specs.Calls.{draftUnready, previewVerdict, previewed, rowVerdict, rowFor, overwritten}
 use Rattle.ledger.specs.Engine.{Parts, callAnswer, withDraft, leaves, Item, cut, restored, partsAfter, answersFrom, storeAnswers}
 use Rattle.ledger.specs.Demands.{HasPicture, DraftLong, PreviewExact, RowExact, PreviewIsRun, DraftIsRun, RowIsCells, readsDraft, butDraftRows, PreviewAltersRowsOnly, LeavesRest, PreviewLeavesRest}
@@ -161,10 +162,7 @@ module _ (p : Parts) (a : PreviewCall) where
   fits : checked .number ≡ 0 → (length entries ≡ rowLength (p .settings)) × (rowLength (p .settings) ≤ length (take (a .lent) (p .draft)))
   fits passed =
       let (ok, long) = accepted-preview (p .settings) (p .meters) (p .readings) (p .cells) (p .days) (take (a .lent) (p .draft)) (a .date) passed in
-      (ap length (previewed-is (p .settings) (p .meters) (p .readings) (p .cells) (p .days) (a .date) (ok .5) (room (ok .3))) ∙ length-tabulate _ _, long)
-    where
-      room : cellsReady (p .settings) (p .cells) ≡ true → datesOf (p .settings) * rowLength (p .settings) ≤ length (p .cells)
-      room ready = (unfold cellsReady cellsLength rowLength in leb-true _ _ ready)
+      (ap length (previewed-is (p .settings) (p .meters) (p .readings) (p .cells) (p .days) (a .date) (ok .5) (cells-long (p .settings) (p .cells) (ok .3))) ∙ length-tabulate _ _, long)
 
   accepted-leaves : checked .number ≡ 0 → LeavesRest p a
   unfolding leaves callAnswer

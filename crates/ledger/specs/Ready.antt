@@ -1,4 +1,4 @@
--- What is known of settings that pass the first check.
+-- What is known of settings, and of cells, that pass the first check.
 use Prim.Native.Nat.{ℕ, _+_, _*_, _≤_}
 use mathlib.Core.Path.{_≡_}
 use mathlib.Core.Bool.{Bool, true, _&&_, and-eq-true-iff}
@@ -12,8 +12,8 @@ use borrow.Author.Tests.{leb-true}
 use Rattle.metering.specs.Range.{between, metersInRange, categoriesInRange, datesInRange}
 use Rattle.metering.specs.Calendar.{periodsPerDay}
 use Rattle.metering.specs.Laws.{duration-is}
-use Rattle.ledger.specs.Sizes.{headerLength, settingsLength}
-use Rattle.ledger.specs.Store.{durationOf, metersOf, categoriesOf, datesOf, periodsOf, rowLength, isOpened, settingsReady}
+use Rattle.ledger.specs.Sizes.{headerLength, settingsLength, cellsLength}
+use Rattle.ledger.specs.Store.{durationOf, metersOf, categoriesOf, datesOf, periodsOf, rowLength, isOpened, settingsReady, cellsReady}
 
 pub both : (a b : Bool) → (a && b) ≡ true → (a ≡ true) × (b ≡ true)
 both a b h = and-eq-true-iff a b .0 h
@@ -64,3 +64,8 @@ row-bounds s k =
       omega (arith, mul-le-mul-right (periodsOf s) (k .categories .0)),
       omega (arith, mul-le-mul-right (periodsOf s) (k .categories .1), mul-le-mul-left 64 (p .1)),
     )
+
+-- there is a row for every date
+pub cells-long : (s cells : List ℕ) → cellsReady s cells ≡ true → datesOf s * rowLength s ≤ length cells
+unfolding cellsReady cellsLength rowLength
+cells-long s cells h = leb-true _ _ h

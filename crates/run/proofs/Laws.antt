@@ -9,11 +9,9 @@ use native.Mathlib.Numerals.{add-one}
 use lib.Arith.{digits-div, digits-mod}
 use lib.ListN.{length, getD, take, drop, replicate, getD-replicate, List·getD-append}
 use borrow.Table.Steps.{cases}
-use borrow.Author.Tests.{leb-true}
 use Rattle.ledger.specs.Method.{wattHours, present, sameFamily, blank}
-use Rattle.ledger.specs.Ready.{Ready, ready, row-bounds}
-use Rattle.ledger.specs.Sizes.{cellsLength}
-use Rattle.ledger.specs.Store.{metersOf, categoriesOf, datesOf, periodsOf, rowLength, categoryOf, dayTypeOf, settingsReady, cellsReady, readingAt, countAndOrigin, entryOf}
+use Rattle.ledger.specs.Ready.{Ready, ready, row-bounds, cells-long}
+use Rattle.ledger.specs.Store.{metersOf, categoriesOf, datesOf, periodsOf, rowLength, categoryOf, dayTypeOf, settingsReady, readingAt, countAndOrigin, entryOf}
 use Rattle.ledger.specs.Table.{tabulate, filling}
 use Rattle.ledger.specs.Calls.{countsFor, tally, familyTally, freshAt, rowAt, Published, asPublished, Placing, publish, countOnly, lastRun, inheritedFrom, comparedEntry, differing, carriedEntry, Ran, carryOn, movedByRow, settled, newRow, ranFrom, movedFrom, runVerdict, previewVerdict, previewed, overwritten}
 use Rattle.entries.specs.Reading.{reading-bound}
@@ -180,18 +178,14 @@ moved-is s m r cells new date same =
 -- ---- a preview and the run, on any store that may be run
 
 module _ (s m r cells days : List ℕ) (date : ℕ) (ok : MayRun s m r cells days date) where
-  room : datesOf s * rowLength s ≤ length cells
-  unfolding cellsReady cellsLength rowLength
-  room = leb-true _ _ (ok .3)
-
   pub foreseen : movedFrom s m r cells date ≡ ranFrom s m r cells days date .moved
-  foreseen = counted-first s m r cells days date (ok .5) room
+  foreseen = counted-first s m r cells days date (ok .5) (cells-long s cells (ok .3))
 
   -- what was drawn, before the rest of the draft
   pub drawn-front : (row draft : List ℕ) (n : ℕ) → row ≡ tabulate (rowLength s) (newRow s m r cells date) → n ≡ rowLength s →
       row ++ drop n draft ≡ overwritten (previewed s m r cells days date) draft
   unfolding overwritten
   drawn-front row draft n is wide =
-      let same : row ≡ previewed s m r cells days date = is ∙ sym (previewed-is s m r cells days date (ok .5) room) in
+      let same : row ≡ previewed s m r cells days date = is ∙ sym (previewed-is s m r cells days date (ok .5) (cells-long s cells (ok .3))) in
       let long : n ≡ length (previewed s m r cells days date) = wide ∙ sym (length-tabulate (rowLength s) (newRow s m r cells date)) ∙ ap length (sym is ∙ same) in
       rw (same, long)

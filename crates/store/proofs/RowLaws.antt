@@ -6,13 +6,8 @@ use mathlib.Core.List.{List}
 use native.Mathlib.Nat.{mul-le-mul-right, suc-mul}
 use native.Mathlib.Omega.{arith}
 use lib.ListN.{length}
-use borrow.Author.Tests.{leb-true}
-use Rattle.ledger.specs.Sizes.{cellsLength}
+use Rattle.ledger.specs.Ready.{cells-long}
 use Rattle.ledger.specs.Store.{datesOf, rowLength, cellsReady, daysReady}
-
-cells-long : (s cells : List ℕ) → cellsReady s cells ≡ true → datesOf s * rowLength s ≤ length cells
-unfolding cellsReady cellsLength rowLength
-cells-long s cells h = leb-true _ _ h
 
 pub row-fits : (s cells : List ℕ) (d : ℕ) → cellsReady s cells ≡ true → d < datesOf s → d * rowLength s + rowLength s ≤ length cells
 row-fits s cells d h l = omega (arith, cells-long s cells h, suc-mul d (rowLength s), mul-le-mul-right (rowLength s) l)
