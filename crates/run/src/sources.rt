@@ -5,12 +5,12 @@ ghost use mathlib.Core.Path.{_≡_};
 ghost use mathlib.Core.Bool.{true};
 ghost use Prim.Native.Nat.{ℕ, _<_, _≤_};
 ghost use lib.ListN.{length, getD};
-ghost use Rattle.ledger.specs.Method.{blank, wattHours, present};
-ghost use Rattle.ledger.specs.Store.{settingsReady, metersReady, readingsReady, cellsReady, metersOf, datesOf, rowLength, dayTypeOf, entryOf};
-ghost use Rattle.ledger.specs.Calls.{lastRun, inheritedFrom};
-ghost use Rattle.run_date.specs.Sums.{Tallied};
+ghost use Rattle.ledger.specs.Method.{blank};
+ghost use Rattle.ledger.specs.Store.{settingsReady, metersReady, readingsReady, cellsReady, datesOf, rowLength, entryOf};
+ghost use Rattle.ledger.specs.Calls.{newRow};
+ghost use Rattle.run_date.specs.Sums.{Bounded, rowFrom};
 
-// The rows for sums and counts are lent empty, that for what is taken over blank.
+// The rows for sums and counts are lent empty, that for what is taken over blank. The row made from what they then hold is the date's new one.
 pub fn gather(
     settings: &[u8],
     meters: &[u64],
@@ -24,8 +24,8 @@ pub fn gather(
     requires { ⌜ (settingsReady (now settings) ≡ true) × (metersReady (now settings) (now meters) ≡ true) × (readingsReady (now settings) (now readings) ≡ true) × (cellsReady (now settings) (now cells) ≡ true) × (date < datesOf (now settings)) ⌝ }
     requires { ⌜ (rowLength (now settings) ≤ length (now sums)) × (rowLength (now settings) ≤ length (now counts)) × (rowLength (now settings) ≤ length (now inherited)) ⌝ }
     requires { ⌜ ((k : ℕ) → k < rowLength (now settings) → (getD (now sums) k 0 ≡ 0) × (getD (now counts) k 0 ≡ 0) × (getD (now inherited) k 0 ≡ entryOf blank)) ⌝ }
-    ensures { λ r. ⌜ (Tallied (now (settings .entry)) (now (meters .entry)) (now (readings .entry)) date wattHours (metersOf (now (settings .entry))) (now (sums .exit))) × (Tallied (now (settings .entry)) (now (meters .entry)) (now (readings .entry)) date present (metersOf (now (settings .entry))) (now (counts .exit))) ⌝ }
-    ensures { λ r. ⌜ ((k : ℕ) → k < rowLength (now (settings .entry)) → getD (now (inherited .exit)) k 0 ≡ inheritedFrom (rowLength (now (settings .entry))) (now (cells .entry)) (lastRun (now (settings .entry)) (now (cells .entry)) (dayTypeOf (now (settings .entry)) date) date) k) ⌝ }
+    ensures { λ r. ⌜ Bounded (now (settings .entry)) (now (sums .exit)) (now (counts .exit)) ⌝ }
+    ensures { λ r. ⌜ ((k : ℕ) → k < rowLength (now (settings .entry)) → rowFrom (now (settings .entry)) (now (sums .exit)) (now (counts .exit)) (now (inherited .exit)) date k ≡ newRow (now (settings .entry)) (now (meters .entry)) (now (readings .entry)) (now (cells .entry)) date k) ⌝ }
 {
     tally_date(settings, meters, readings, date, sums, counts);
     inherit(settings, cells, date, inherited);

@@ -1,8 +1,7 @@
 -- `run::run_with` meets its contract: the row written is the definition's new row, and the rest follows it.
 use mathlib.Core.Path.{_∙_}
 use borrow.Author.Needs.{needs}
-use Rattle.ledger.specs.Ready.{ready}
-use Rattle.run.proofs.Laws.{tallied-bounded, new-is, ran-is}
+use Rattle.run.proofs.Laws.{ran-is}
 use Rattle.run.proofs.run_with.Statement.{statement}
 use Rattle.run.proofs.run_with.Tie as tie
 
@@ -21,15 +20,13 @@ gather-requires c κs = search needs
 settle-requires : tie.Need-settle-requires
 settle-requires c κs =
     let g = gathered c in
-    let s = start g in
-    let a = s .args in
-    let S = a .settings .now in (
+    let s = start g in (
       (s .pre .0 .0, s .pre .0 .3, s .pre .0 .4, s .pre .0 .5),
       (
         rw (g .gather .kept .1 .1 .1 .1 .1 .0) (s .pre .1 .0 .0),
         rw (g .gather .kept .1 .1 .1 .1 .1 .1 .0) (s .pre .1 .0 .1),
         rw (g .gather .kept .1 .1 .1 .1 .1 .1 .1 .0) (s .pre .1 .0 .2),
-        tallied-bounded S (a .meters .now) (a .readings .now) (a .date) (ready S (s .pre .0 .0)) _ _ (g .gather .ensures .0 .0) (g .gather .ensures .0 .1),
+        g .gather .ensures .0,
       ),
     )
 
@@ -54,10 +51,7 @@ returns c =
     let s = start g in
     let a = s .args in
     let S = a .settings .now in
-    let new =
-    new-is S (a .meters .now) (a .readings .now) (a .date) (ready S (s .pre .0 .0)) (g .gather .last .1 .1 .1 .1 .1 .0) (g .gather .last .1 .1 .1 .1 .1 .1 .0)
-    (g .gather .ensures .0 .0) (g .gather .ensures .0 .1) (a .cells .now) (g .gather .last .1 .1 .1 .1 .1 .1 .1 .0) (g .gather .ensures .1) in
-    after-settle c .settle .ensures ∙ ran-is S (a .meters .now) (a .readings .now) (a .cells .now) (a .days .now) _ (a .date) new
+    after-settle c .settle .ensures ∙ ran-is S (a .meters .now) (a .readings .now) (a .cells .now) (a .days .now) _ (a .date) (g .gather .ensures .1)
 
 pub run-with-spec : {M : Type 1} → statement M
 run-with-spec =

@@ -1,10 +1,9 @@
 -- `run::preview::preview_with` meets its contract: the row drawn is the definition's new row, and so is what is counted from it.
 use mathlib.Core.Path.{_∙_}
 use borrow.Author.Needs.{needs}
-use Rattle.ledger.specs.Ready.{ready}
 use Rattle.ledger.specs.Store.{rowLength}
 use Rattle.ledger.proofs.Lists.{tabulate-ext}
-use Rattle.run.proofs.Laws.{tallied-bounded, new-is, moved-is}
+use Rattle.run.proofs.Laws.{moved-is}
 use Rattle.run.proofs.preview.preview_with.Statement.{statement}
 use Rattle.run.proofs.preview.preview_with.Tie as tie
 
@@ -23,15 +22,13 @@ gather-requires c κs = search needs
 draw-requires : tie.Need-draw-requires
 draw-requires c κs =
     let g = gathered c in
-    let s = start g in
-    let a = s .args in
-    let S = a .settings .now in (
+    let s = start g in (
       (s .pre .0 .0, s .pre .0 .3, s .pre .0 .4, s .pre .0 .5),
       (
         rw (g .gather .kept .1 .1 .1 .1 .1 .0) (s .pre .1 .0 .0),
         rw (g .gather .kept .1 .1 .1 .1 .1 .1 .0) (s .pre .1 .0 .1),
         rw (g .gather .kept .1 .1 .1 .1 .1 .1 .1 .0) (s .pre .1 .0 .2),
-        tallied-bounded S (a .meters .now) (a .readings .now) (a .date) (ready S (s .pre .0 .0)) _ _ (g .gather .ensures .0 .0) (g .gather .ensures .0 .1),
+        g .gather .ensures .0,
       ),
     )
 
@@ -54,10 +51,7 @@ returns c =
     let s = start g in
     let a = s .args in
     let S = a .settings .now in
-    let new =
-    new-is S (a .meters .now) (a .readings .now) (a .date) (ready S (s .pre .0 .0)) (g .gather .last .1 .1 .1 .1 .1 .0) (g .gather .last .1 .1 .1 .1 .1 .1 .0)
-    (g .gather .ensures .0 .0) (g .gather .ensures .0 .1) (a .cells .now) (g .gather .last .1 .1 .1 .1 .1 .1 .1 .0) (g .gather .ensures .1) in
-    (d .draw .ensures .0 ∙ tabulate-ext (rowLength S) _ _ new, d .draw .ensures .1 ∙ moved-is S (a .meters .now) (a .readings .now) (a .cells .now) _ (a .date) new)
+    (d .draw .ensures .0 ∙ tabulate-ext (rowLength S) _ _ (g .gather .ensures .1), d .draw .ensures .1 ∙ moved-is S (a .meters .now) (a .readings .now) (a .cells .now) _ (a .date) (g .gather .ensures .1))
 
 pub preview-with-spec : {M : Type 1} → statement M
 preview-with-spec =
