@@ -16,9 +16,9 @@ static void show(const char *call, uint64_t number, int results) {
 int main(void) {
     const uint8_t category[] = {1, 1, 1, 1, 1, 1, 0, 1}, day_types[] = {1, 1};
     const uint8_t body[] = {0, 30, 1, 0, 0, 1, 244, 1, 224, 1, 0, 0, 0, 250}; /* 500, 250 Wh */
-    const uint64_t mpan = 1000000000003;
-    show("open", jihoweka_open(STORE, LEND(cells), LEND(days), 30, 1, LEND(category),
-                               LEND(day_types), LEND(fields)), 0);
+    const uint64_t mpan = 1000000000003, windows[] = {0, 420}; /* off-peak 00:00 to 07:00 */
+    show("open", jihoweka_open(STORE, LEND(cells), LEND(days), 30, 1, LEND(windows),
+                               LEND(category), LEND(day_types), LEND(fields)), 0);
     show("register", jihoweka_register(STORE, mpan, 0, 0, 0, 7, 1, 10000, LEND(fields)), 0);
     show("receive", jihoweka_receive(STORE, 7, mpan, 0, 30, 1, LEND(body), LEND(fields)), 0);
     for (uint64_t date = 0; date < 2; date++)

@@ -22,11 +22,16 @@
 enum { DURATION = 30, PERIODS = JIHOWEKA_PERIODS(DURATION), METERS = 5, CATEGORIES = 4, DATES = 6 };
 enum { SENDER = 7, ENERGISED = 1, LIMIT = 10000 };
 
+/* Off-peak, each a start and an end minute: a category names one by its place here, from 1. */
+static const uint64_t WINDOWS[] = {
+    0, 420,  /* 1: 00:00 to 07:00 */
+    30, 450, /* 2: 00:30 to 07:30 */
+};
 /* Segment, group, domestic, quantity, connection, window, de-minimis. */
 static const uint8_t CATEGORY_RECORDS[CATEGORIES * JIHOWEKA_CATEGORY_BYTES] = {
-    1, 1, 2, 1, 1, 1, 0, 1, /* 0: import of group A, off-peak from 00:00 to 07:00 */
+    1, 1, 2, 1, 1, 1, 0, 1, /* 0: import of group A, off-peak in window 1 */
     1, 1, 2, 2, 1, 0, 0, 1, /* 1: export of group A */
-    1, 2, 2, 1, 1, 2, 0, 2, /* 2: import of group B, off-peak from 00:30 to 07:30, two readings */
+    1, 2, 2, 1, 1, 2, 0, 2, /* 2: import of group B, off-peak in window 2, two readings */
     1, 2, 2, 2, 1, 0, 0, 1, /* 3: export of group B */
 };
 static const uint8_t DAY_TYPES[DATES] = {1, 1, 2, 1, 1, 2};
@@ -106,9 +111,10 @@ static const char *name_of(uint64_t number) {
         NAME(ACCEPTED); NAME(SHORT); NAME(CATEGORY_UNKNOWN); NAME(SIZE); NAME(CATEGORY_RECORD);
         NAME(DAY_TYPE); NAME(MPAN); NAME(NOT_REGISTERED); NAME(STORE_FULL); NAME(DATE);
         NAME(START_TOO_EARLY); NAME(SET_HELD); NAME(NINTH_REGISTRATION); NAME(BODY); NAME(NOT_RUN);
-        NAME(RANGE); NAME(REGISTRATION); NAME(NOTHING_TO_FILL); NAME(DRAFT_SHORT); NAME(NO_PARTNER);
-        NAME(SENDER); NAME(QUANTITY); NAME(DURATION); NAME(END_MINUTE); NAME(DUPLICATE);
-        NAME(DE_ENERGISED); NAME(DISCONNECTED); NAME(ZERO_ESTIMATE); NAME(ABOVE_LIMIT);
+        NAME(RANGE); NAME(REGISTRATION); NAME(NOTHING_TO_FILL); NAME(DRAFT_SHORT); NAME(WINDOW);
+        NAME(NO_PARTNER); NAME(SENDER); NAME(QUANTITY); NAME(DURATION); NAME(END_MINUTE);
+        NAME(DUPLICATE); NAME(DE_ENERGISED); NAME(DISCONNECTED); NAME(ZERO_ESTIMATE);
+        NAME(ABOVE_LIMIT);
         default: return "UNKNOWN";
     }
 #undef NAME
@@ -133,7 +139,8 @@ static void print_kwh(const char *before, int64_t wh) {
 static void open_store(struct store *s) {
     int64_t fields[JIHOWEKA_FIELDS];
     uint64_t number = jihoweka_open(PART(settings), PART(meters), PART(readings), PART(cells),
-                                    PART(days), DURATION, METERS, CATEGORY_RECORDS,
+                                    PART(days), DURATION, METERS, WINDOWS,
+                                    sizeof WINDOWS / sizeof *WINDOWS, CATEGORY_RECORDS,
                                     sizeof CATEGORY_RECORDS, DAY_TYPES, sizeof DAY_TYPES, RESULTS);
     printf("open: ");
     if (accepted(number, fields)) puts("accepted");

@@ -16,6 +16,7 @@ mod c {
             cells: *mut u64, cells_length: usize,
             days: *mut u64, days_length: usize,
             duration: u64, meter_count: u64,
+            windows: *const u64, windows_length: usize,
             category_records: *const u8, category_records_length: usize,
             day_types: *const u8, day_types_length: usize,
             fields: *mut i64, fields_length: usize,
@@ -112,7 +113,7 @@ mod c {
 
 // ---- the wrapper
 
-const LAYOUT: u64 = 5;
+const LAYOUT: u64 = 6;
 const FIELDS: usize = 11;
 const NO_ORIGIN: i64 = 65535;
 
@@ -216,7 +217,7 @@ impl Store {
     fn allocate(duration: usize, meters: usize, categories: usize, dates: usize) -> Store {
         let periods = 1440 / duration;
         Store {
-            settings: vec![0; 8 + 8 * categories + dates],
+            settings: vec![0; 40 + 8 * categories + dates],
             meters: vec![0; 41 * meters],
             readings: vec![0; dates * meters * (1 + periods)],
             cells: vec![0; dates * categories * periods],
@@ -227,9 +228,11 @@ impl Store {
     }
 
     fn open(
-        &mut self, duration: u64, meter_count: u64, category_records: &[u8], day_types: &[u8],
+        &mut self, duration: u64, meter_count: u64, windows: &[[u64; 2]], category_records: &[u8],
+        day_types: &[u8],
     ) -> Result<(), Refusal> {
-        // SAFETY: five vectors of self, each borrowed as mutable, and two slices only read.
+        let minutes = windows.concat();
+        // SAFETY: five vectors of self, each borrowed as mutable, and three slices only read.
         results(|fields, length| unsafe {
             c::jihoweka_open(
                 self.settings.as_mut_ptr(), self.settings.len(),
@@ -238,6 +241,7 @@ impl Store {
                 self.cells.as_mut_ptr(), self.cells.len(),
                 self.days.as_mut_ptr(), self.days.len(),
                 duration, meter_count,
+                minutes.as_ptr(), minutes.len(),
                 category_records.as_ptr(), category_records.len(),
                 day_types.as_ptr(), day_types.len(),
                 fields, length,
@@ -494,6 +498,7 @@ impl fmt::Display for Refusal {
             16 => "REGISTRATION",
             17 => "NOTHING_TO_FILL",
             18 => "DRAFT_SHORT",
+            19 => "WINDOW",
             26 => "NO_PARTNER",
             1001 => "SENDER",
             1002 => "QUANTITY",
@@ -517,11 +522,16 @@ const SENDER: u16 = 7;
 const ENERGISED: u64 = 1;
 const LIMIT: u32 = 10000;
 
+/// Off-peak, each a start and an end minute: a category names one by its place here, from 1.
+const WINDOWS: [[u64; 2]; 2] = [
+    [0, 420],  // 1: 00:00 to 07:00
+    [30, 450], // 2: 00:30 to 07:30
+];
 /// Segment, group, domestic, quantity, connection, window, de-minimis.
 const CATEGORY_RECORDS: [[u8; 8]; 4] = [
-    [1, 1, 2, 1, 1, 1, 0, 1], // 0: import of group A, off-peak from 00:00 to 07:00
+    [1, 1, 2, 1, 1, 1, 0, 1], // 0: import of group A, off-peak in window 1
     [1, 1, 2, 2, 1, 0, 0, 1], // 1: export of group A
-    [1, 2, 2, 1, 1, 2, 0, 2], // 2: import of group B, off-peak from 00:30 to 07:30, two readings
+    [1, 2, 2, 1, 1, 2, 0, 2], // 2: import of group B, off-peak in window 2, two readings
     [1, 2, 2, 2, 1, 0, 0, 1], // 3: export of group B
 ];
 const DAY_TYPES: [u8; 6] = [1, 1, 2, 1, 1, 2];
@@ -784,7 +794,7 @@ fn correct_first_date(store: &mut Store) {
 fn head_end(days: &str, saved: &str) -> Result<(), String> {
     let mut store = new_store();
     let (duration, meters) = (DURATION as u64, METERS.len() as u64);
-    let opened = store.open(duration, meters, &CATEGORY_RECORDS.concat(), &DAY_TYPES);
+    let opened = store.open(duration, meters, &WINDOWS, &CATEGORY_RECORDS.concat(), &DAY_TYPES);
     say("open".to_string(), opened, accepted);
     METERS.iter().for_each(|&(mpan, category)| register_meter(&mut store, mpan, category));
     register_meter(&mut store, METERS[0].0 + 1, 0); // mistyped

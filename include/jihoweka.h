@@ -26,8 +26,8 @@
      JIHOWEKA_ACCEPTED, or the number of the first check that failed; each call lists its checks in
      their order. The results of an accepted call stand at the front of `fields`: energies in Wh, a
      flag as its ASCII letter. A refused call changes nothing but fields[JIHOWEKA_PLACE], which it
-     sets to the place of the bad record, category record or day type, from 1, or to 0 where the
-     number names none. All other entries of `fields` keep their contents, all of them where an
+     sets to the place of the bad record, window, category record or day type, from 1, or to 0 where
+     the number names none. All other entries of `fields` keep their contents, all of them where an
      accepted call has no results. Where `fields` has fewer than JIHOWEKA_FIELDS entries, every call
      that has `fields` returns JIHOWEKA_SHORT before all its checks and writes nothing at all.
      One call has another form: jihoweka_read_row returns the length of a row. It has no `fields`,
@@ -72,7 +72,8 @@ enum jihoweka_number {
                                          there; never on a store that these calls made */
     JIHOWEKA_SIZE = 3,                /* opening: duration, meter_count, or the length of
                                          category_records or day_types */
-    JIHOWEKA_CATEGORY_RECORD = 4,     /* opening: bad, or an earlier one has its key (place) */
+    JIHOWEKA_CATEGORY_RECORD = 4,     /* opening: bad, its window is beyond the list, or an
+                                         earlier one has its key (place) */
     JIHOWEKA_DAY_TYPE = 5,            /* opening: not 1 to 16 (place) */
     JIHOWEKA_MPAN = 6,                /* 0, above 9999999999999, or a wrong check digit */
     JIHOWEKA_NOT_REGISTERED = 7,      /* no registration of the meter is in force on the date */
@@ -90,6 +91,8 @@ enum jihoweka_number {
     JIHOWEKA_NOTHING_TO_FILL = 17,    /* no period is missing, or the values of those that are add
                                          up to 0 */
     JIHOWEKA_DRAFT_SHORT = 18,        /* the draft has fewer entries than a date has cells */
+    JIHOWEKA_WINDOW = 19,             /* opening: off the period grid, start not below end, end past
+                                         1440, no end, or a ninth (place) */
     JIHOWEKA_NO_PARTNER = 26,         /* not Smart import, or no export category to net it with */
     JIHOWEKA_SENDER = 1001,           /* not the one appointed at midday of the date */
     JIHOWEKA_QUANTITY = 1002,         /* not that of its category */
@@ -103,7 +106,7 @@ enum jihoweka_number {
 };
 
 enum {
-    JIHOWEKA_LAYOUT = 5,              /* of the parts; another one has other entries, also where all
+    JIHOWEKA_LAYOUT = 6,              /* of the parts; another one has other entries, also where all
                                          lengths are the same */
     JIHOWEKA_FIELDS = 11,             /* entries that `fields` has at least */
     JIHOWEKA_CATEGORY_BYTES = 8,      /* of a category record */
@@ -132,7 +135,8 @@ enum {
 /* ---- least lengths of the parts in entries, for sizes that an opening accepts */
 
 #define JIHOWEKA_PERIODS(duration) (1440 / (size_t)(duration))
-#define JIHOWEKA_SETTINGS_LENGTH(categories, dates) (8 + 8 * (size_t)(categories) + (size_t)(dates))
+#define JIHOWEKA_SETTINGS_LENGTH(categories, dates) \
+    (40 + 8 * (size_t)(categories) + (size_t)(dates))
 #define JIHOWEKA_METERS_LENGTH(meters) (41 * (size_t)(meters))
 #define JIHOWEKA_READINGS_LENGTH(meters, dates, periods) \
     ((size_t)(dates) * (size_t)(meters) * (1 + (size_t)(periods)))
@@ -156,17 +160,21 @@ enum {
 /* Makes a new store of the parts: all five are written.
      duration          minutes of a period, 15 or 30
      meter_count       the most meters that it will know, 1 to 1024
+     windows           the off-peak windows, 0 to 8: start minute, end minute, start, end and so on
+                       (the length is in minutes, 2 for each window). Both are multiples of the
+                       duration, the start is below the end, the end is 1440 at most. Windows may be
+                       alike or overlap. 0, 420, 30, 450 are 00:00 to 07:00 and 00:30 to 07:30.
      category_records  1 to 64 of 8 bytes each (the length is in bytes): segment (1 Smart, 2
                        Advanced), GSP group (1 to 14 for A B C D E F G H J K L M N P), domestic
                        (1 yes, 2 no), quantity (1 active import, 2 active export), connection (1 W,
-                       2 L, 3 H, 4 E), off-peak window (0 none, 1 for 00:00 to 07:00, 2 for 00:30
-                       to 07:30), de-minimis (how many readings make a shape, 0 as 1; 2 bytes, the
-                       high one first). Group, domestic and window are 0 in an Advanced one. The
-                       first five bytes are the key. A family is all Smart categories alike in
-                       domestic, quantity and connection.
+                       2 L, 3 H, 4 E), off-peak window (0 none, else the place of a window in
+                       `windows`, from 1), de-minimis (how many readings make a shape, 0 as 1; 2
+                       bytes, the high one first). Group, domestic and window are 0 in an Advanced
+                       one. The first five bytes are the key. A family is all Smart categories alike
+                       in domestic, quantity and connection.
      day_types         one for each date, 1 to 800 of them, each 1 to 16; a cell without a shape of
                        its own takes over that of the nearest earlier run date of the same type
-   Results: none. Checks: 3, 4, 5, 1. */
+   Results: none. Checks: 3, 19, 4, 5, 1. */
 uint64_t jihoweka_open(
     uint8_t *settings, size_t settings_length,
     uint64_t *meters, size_t meters_length,
@@ -175,6 +183,7 @@ uint64_t jihoweka_open(
     uint64_t *days, size_t days_length,
     uint64_t duration,
     uint64_t meter_count,
+    const uint64_t *windows, size_t windows_length,
     const uint8_t *category_records, size_t category_records_length,
     const uint8_t *day_types, size_t day_types_length,
     int64_t *fields, size_t fields_length);

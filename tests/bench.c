@@ -50,6 +50,7 @@ static int64_t fields[JIHOWEKA_FIELDS];
 #define DAY_PARTS LENT(settings), LENT(days)
 #define FIELDS fields, JIHOWEKA_FIELDS
 
+static const uint64_t windows[] = {0, 420, 30, 450};
 static uint8_t category_records[CATEGORIES][JIHOWEKA_CATEGORY_BYTES];
 static uint8_t day_types[DATES];
 static uint64_t mpans[METERS];                      /* meter k is in category k % CATEGORIES */
@@ -154,8 +155,8 @@ static inline void must_accept(const char *call, uint64_t number) {
 
 static void open_store(void) {
     must_accept("number of an opening", jihoweka_open(
-        ALL_PARTS, DURATION, METERS, *category_records, sizeof category_records, day_types, DATES,
-        FIELDS));
+        ALL_PARTS, DURATION, METERS, windows, sizeof windows / sizeof *windows, *category_records,
+        sizeof category_records, day_types, DATES, FIELDS));
 }
 
 static void register_meter(size_t meter, uint64_t date) {

@@ -13,15 +13,15 @@ from fractions import Fraction
 from math import floor
 
 WEIGHTS = (3, 5, 7, 13, 17, 19, 23, 29, 31, 37, 41, 43)
-CLOCK = {0: ("00:00", "00:00"), 1: ("00:00", "07:00"), 2: ("00:30", "07:30")}
+CLOCK = (("00:00", "00:00"), ("00:00", "07:00"), ("00:30", "07:30"))  # none, and METH005's two
 DAY = 24 * 60
 U64 = 2**64 - 1
 LARGEST_YEARLY = U64 // 365  # the largest sum whose product with 365 fits 64 bits
 
-# by segment, the first byte of a category record: GSP group, domestic, quantity, connection, window
+# by segment, the first byte of a category record: GSP group, domestic, quantity, connection
 SEGMENTS = {
-    1: [set(range(1, 15)), {1, 2}, {1, 2}, {1, 2, 3, 4}, {0, 1, 2}],
-    2: [{0}, {0}, {1, 2}, {1, 2, 3, 4}, {0}],
+    1: [set(range(1, 15)), {1, 2}, {1, 2}, {1, 2, 3, 4}],
+    2: [{0}, {0}, {1, 2}, {1, 2, 3, 4}],
 }
 
 
@@ -54,9 +54,23 @@ def wholly_within(duration, start, end, period):
     return all(start <= m < end for m in range((period - 1) * duration, period * duration))
 
 
-def category_good(record):
+def window_good(duration, start, end):
+    """From the end of one period, or the day's beginning, to the end of a later one."""
+    edges = range(0, DAY + 1, duration)
+    return start in edges and end in edges and start < end
+
+
+def stretch(duration, start, end):
+    """How many periods come before those between the minutes, and how many these are."""
+    periods = [j for j in range(1, DAY // duration + 1) if wholly_within(duration, start, end, j)]
+    return (periods[0] - 1 if periods else 0), len(periods)
+
+
+def category_good(record, windows):
     fields = SEGMENTS.get(record[0])
-    return fields is not None and all(b in allowed for b, allowed in zip(record[1:6], fields))
+    if fields is None or record[5] not in range(windows + 1 if record[0] == 1 else 1):
+        return False
+    return all(b in allowed for b, allowed in zip(record[1:5], fields))
 
 
 def yes(answer):
@@ -69,7 +83,7 @@ class Cases:
         self.wanted = []
 
     def add(self, kind, operands, shown, *answers):
-        padded = list(operands) + [0] * (4 - len(operands))
+        padded = list(operands) + [0] * (3 - len(operands))
         self.given.append(" ".join([kind] + [f"{n:016x}" for n in padded]))
         self.wanted.append(" ".join(str(word) for word in (*shown, *answers)))
 
@@ -91,13 +105,9 @@ class Cases:
     def end(self, duration, end):
         self.add("e", [duration, end], ["end", duration, end], period_closed_by(duration, end))
 
-    def within(self, duration, start, end, period):
-        shown = ["within", duration, start, end, period]
-        self.add("l", [duration, start, end, period], shown, yes(wholly_within(duration, start, end, period)))
-
-    def window(self, window):
-        start, end = CLOCK[window]
-        self.add("w", [window], ["window", window], minute(start), minute(end))
+    def window(self, duration, start, end):
+        self.add("w", [duration, start, end], ["window", duration, start, end],
+                 yes(window_good(duration, start, end)), *stretch(duration, start, end))
 
     def between(self, low, high, x):
         self.add("b", [low, high, x], ["between", low, high, x], yes(x in range(low, high + 1)))
@@ -106,9 +116,10 @@ class Cases:
         answers = [yes(1 <= x <= most) for most in (1024, 64, 800, 16)]
         self.add("r", [x], ["range", x], *answers)
 
-    def category(self, record):
+    def category(self, record, windows=2):
         number = int.from_bytes(bytes(record), "big")
-        self.add("c", [number], ["category", f"{number:016x}"], yes(category_good(record)))
+        self.add("c", [number, windows], ["category", f"{number:016x}", windows],
+                 yes(category_good(record, windows)))
 
 
 def pseudo_random(seed):
@@ -169,21 +180,15 @@ def calendar_cases(cases):
         near = [e + step for e in (duration, 720, DAY) for step in (-1, 1)]
         for end in ends + near + [65535, 2 * DAY, U64]:
             cases.end(duration, end)
-    for window in CLOCK:
-        cases.window(window)
     for duration in (15, 30):
         for window in CLOCK:
-            start, end = (minute(clock) for clock in CLOCK[window])
-            last = end // duration
-            for period in sorted({1, 2, 3, 4, max(1, last - 1), max(1, last), last + 1, DAY // duration}):
-                cases.within(duration, start, end, period)
-        # a window that cuts periods at both of its ends, and the whole day
-        for period in range(1, 6):
-            cases.within(duration, 1, 4 * duration - 1, period)
-        for period in (1, DAY // duration):
-            cases.within(duration, 0, DAY, period)
-            cases.within(duration, 0, U64, period)
-            cases.within(duration, U64, U64, period)
+            cases.window(duration, *(minute(clock) for clock in window))
+        # minutes on the grid, beside it, at the day's end and past it, in either order
+        near = [e + step for e in (duration, 450, DAY - duration, DAY) for step in (-1, 0, 1)]
+        minutes = sorted({0, 45, 75, *near, DAY + duration, 65535, 65536 + 420, U64})
+        for start in minutes:
+            for end in minutes:
+                cases.window(duration, start, end)
 
 
 def range_cases(cases):
@@ -204,6 +209,11 @@ def category_cases(cases):
                 record = list(base)
                 record[place] = value
                 cases.category(record)
+    # a window by its place among none to eight, among more than a byte counts, and the next one
+    for windows in (0, 1, 2, 3, 7, 8, 255, 256, U64):
+        for window in sorted({0, 1, 2, 3, 7, 8, 9, 254, 255}):
+            cases.category([1, 1, 1, 1, 1, window, 0, 0], windows)
+        cases.category([2, 0, 0, 1, 1, 1, 0, 0], windows)
     cases.category([1, 14, 2, 2, 4, 2, 255, 255])
     cases.category([2, 0, 0, 2, 4, 0, 255, 255])
     cases.category([0] * 8)

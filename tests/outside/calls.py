@@ -20,17 +20,18 @@ import struct
 import sys
 from collections import Counter
 
-from ledger import BLANK, DAY, EXPORT, IMPORT, Category, Ledger, Registration, opening
-from library import (ARRAYS, BITS, CALLS, FIELDS, HEADER, PARTS, WIDTHS, Difference, Library,
-                     Store, described, entries_of, sizes_of, to_be_reached)
+from ledger import (BLANK, DAY, EXPORT, IMPORT, MOST_WINDOWS, Category, Ledger, Registration,
+                    opening)
+from library import (ARRAYS, BITS, CALLS, FIELDS, HEADER, PARTS, RECORDS, WIDTHS, Difference,
+                     Library, Store, described, entries_of, packed, sizes_of, to_be_reached)
 from streams import TOP, category_bytes, valid_mpan
 
 SECONDS = 60                               # after which a list of calls does not end
 ENOUGH = 20_000                            # calls that reach every number
 LONGEST = 100_000                          # entries of an array; a longer one is not lent here
 # How often each call is made once the first meters are registered. Dates are mostly run again, and
-# what runs keep in days is read in between.
-TURNS = {'opening': 1, 'registration': 10, 'reception': 26, 'run': 26, 'preview': 16, 'totals': 26,
+# what runs keep in days is read in between. Most openings are refused, and the store goes on.
+TURNS = {'opening': 5, 'registration': 10, 'reception': 26, 'run': 26, 'preview': 16, 'totals': 26,
          'cell': 12, 'row': 16, 'entry': 4, 'net': 18, 'band': 18, 'fill': 12, 'fill_opted_out': 12,
          'coverage': 26}
 SWITCHES = (0, 0, 0, 0, 1, 2, 2 ** 8, 2 ** 16, 2 ** 32, 2 ** 63)       # 0 and any other number
@@ -54,8 +55,15 @@ class Caller:
         self.dates = range(ledger.dates)
         if ledger.dates > 16:              # the ledger is quick where few are run
             self.dates = [0, 6, 7, 364, 365, 370, ledger.dates - 4, ledger.dates - 1]
-        seven = 7 * ledger.periods // 24   # the last period of the first window
-        self.periods = [1, 2, seven, seven + 1, ledger.periods]
+        # Five periods, mostly the last and first ones in and beside the windows that are named.
+        named = [ledger.windows[category.window - 1] for category in ledger.categories
+                 if category.window]
+        edges = {1, ledger.periods, *(minute // ledger.duration + beside for window in named
+                                      for minute in window for beside in (0, 1))}
+        day = range(1, ledger.periods + 1)
+        first = [period for period in day if period in edges]
+        others = [period for period in day if period not in edges]
+        self.periods = (self.rng.sample(first, len(first)) + others)[:5]
 
     def chance(self, share):
         return self.rng.random() < share
@@ -72,7 +80,8 @@ class Caller:
         self.turns(120)
         for _ in range(9 if kind == 'damaged' else 0):
             self.damage()                  # of what the calls had made, each time
-            self.turns(10)
+            self.make('run', [self.rng.choice(self.dates)])
+            self.turns(9)
         return self.made
 
     def turns(self, count):
@@ -84,6 +93,8 @@ class Caller:
         if arguments is None:
             arguments = self.spoiled(name, getattr(self, name)())
         store, given = self.store, dict(zip(CALLS[name].arguments, arguments))
+        if name == 'opening':
+            given['windows'] = packed(given['windows'])
         for each in (*CALLS[name].lists, CALLS[name].parameters[-1]):
             given[each] = self.rng.randbytes(WIDTHS[each] * self.length(each))
         given.update(self.lent_parts(name, arguments))
@@ -171,17 +182,42 @@ class Caller:
         return struct.pack(f'{count}Q', *rng.choices(kinds, k=count))
 
     def scramble(self):
-        """Random parts, mostly with a header that says opened and long enough for it."""
+        """Random parts, mostly with a header that says opened and long enough for it.
+
+        The windows in it and their numbers in the category records are any.
+        """
         rng, sizes = self.rng, sizes_of(self.aims)
         parts = {part: self.strange(min(length + rng.randint(0, 1), LONGEST))
                  for part, length in sizes.least().items()}
         settings = rng.randbytes(sizes.least()['settings'])
         if self.chance(0.5):               # with the category records and day types of an opening
             records = b''.join(map(category_bytes, self.aims.categories))
-            settings = settings[:8] + records + bytes(self.aims.day_types)
+            settings = settings[:RECORDS] + records + bytes(self.aims.day_types)
         if self.chance(0.9):
-            settings = struct.pack(HEADER, *sizes) + settings[8:]
-        self.store.replace({**parts, 'settings': settings})
+            minutes = [minute for _ in range(MOST_WINDOWS) for minute in self.strange_window()]
+            settings = struct.pack(HEADER, *sizes, *minutes) + settings[RECORDS:]
+        settings = bytearray(settings)
+        for category in range(sizes.categories):
+            if self.chance(0.5):
+                settings[RECORDS + 8 * category + 5] = self.strange_number()
+        self.store.replace({**parts, 'settings': bytes(settings)})
+
+    def strange_window(self):
+        """Start and end about periods that have readings, on the grid or not; or anything."""
+        rng, duration = self.rng, self.aims.duration
+        first, last = sorted(rng.choices(self.periods, k=2))
+        start, end = duration * (first - 1), duration * last
+        off_start, off_end = (
+            max(0, minute + rng.choice((-1, 1, rng.randint(-duration, duration))))
+            for minute in (start, end))
+        far = rng.choice((DAY, DAY + 1, 2 * DAY, 4096, 65535, rng.randrange(65536)))
+        return rng.choice(((0, 0), (start, end), (off_start, end), (start, off_end),
+                           (off_start, off_end), (end, start), (start, start), (start, far),
+                           (far, end), (off_start, far), (rng.randrange(65536), far)))
+
+    def strange_number(self):
+        """Of a window, as any byte of a category record."""
+        return self.rng.choice((*range(MOST_WINDOWS + 1), MOST_WINDOWS + 1, 16, 255))
 
     def damage(self):
         """Other entries here and there, and registrations for categories or dates that are none."""
@@ -194,8 +230,13 @@ class Caller:
                 at = WIDTHS[part] * rng.randrange(len(parts[part]) // WIDTHS[part])
                 if part != 'settings':
                     parts[part][at:at + 8] = self.strange(1)
-                elif at >= 8 or self.chance(0.3):      # the header less often
+                elif at >= 8 or self.chance(0.3):      # the sizes less often
                     parts[part][at] = rng.choice((0, 1, 2, 3, 15, 30, 255, parts[part][at] ^ 1))
+        if self.chance(0.7):               # a category's window, by its number and its minutes
+            record = RECORDS + 8 * rng.randrange(len(aims.categories))
+            number = parts['settings'][record + 5] = self.strange_number()
+            place = number if 1 <= number <= MOST_WINDOWS else 1
+            struct.pack_into('>2H', parts['settings'], 4 + 4 * place, *self.strange_window())
         if self.chance(0.5):
             entry = aims.meters + 40 * rng.randrange(min(aims.meters, 3)) + 1
             number = len(aims.categories) + rng.choice((0, 1, 2 ** 8, 2 ** 32, 2 ** 63))
@@ -245,6 +286,8 @@ class Caller:
         elif self.chance(0.08):
             dates, count, meters = rng.choice((
                 (800, 1, 1), (375, 2, 2), (375, 1, 2), (1, 64, 2), (1, 1, 1024), (800, 64, 1024)))
+        duration = 15 if self.chance(0.25) else 30
+        windows = rng.choice((0, 1, 2, 2, rng.randint(3, MOST_WINDOWS), MOST_WINDOWS))
         categories, home = {}, (rng.randint(1, 2), rng.randint(1, 4))
         while len(categories) < count:     # mostly of two families, import and export
             domestic, connection = home
@@ -253,20 +296,78 @@ class Caller:
             smart = self.chance(0.9)
             category = Category(1 if smart else 2, smart * rng.randint(1, 2 if count < 9 else 14),
                                 smart * domestic, rng.randint(1, 2), connection,
-                                smart * rng.randint(0, 2), rng.choice((0, 1, 1, 1, 2, 2, 3)))
+                                smart * rng.choice((0, windows, rng.randint(0, windows))),
+                                rng.choice((0, 1, 1, 1, 2, 2, 3)))
             categories[category.key] = category
         types = rng.sample(range(1, 17), rng.randint(1, 2))
-        return [15 if self.chance(0.15) else 30, meters,
+        return [duration, meters, self.good_windows(duration, windows),
                 b''.join(map(category_bytes, categories.values())),
                 bytes(rng.choices(types, k=dates))]
 
+    def good_windows(self, duration, count):
+        """The minutes of so many: of any hours, at the ends of the day, of one period, alike.
+
+        Some begin where another one ends.
+        """
+        rng, windows = self.rng, []
+        for _ in range(count):
+            start, end = sorted(rng.sample(range(0, DAY + 1, duration), 2))
+            shapes = [(start, end), (start, end), (start, start + duration), (0, end), (start, DAY),
+                      (0, DAY), (0, duration), (DAY - duration, DAY), (0, 420), (30, 450)]
+            if windows:
+                other = rng.choice(windows)
+                shapes += [other, other]
+                if other[1] < DAY:
+                    shapes += [(other[1], DAY), (other[1], other[1] + duration)]
+            windows.append(rng.choice(shapes))
+        return [minute for window in windows for minute in window]
+
+    def bad_window(self, duration):
+        """Start and end that break a rule."""
+        rng = self.rng
+        start, end = sorted(rng.sample(range(0, DAY + 1, duration), 2))
+        off = rng.choice((1, duration // 2, duration - 1))             # the grid
+        huge = rng.choice((2 ** 64 - 1, 2 ** 63, 2 ** 16 + end, 2 ** 32 + end, 2 ** 16 + 420))
+        huge -= rng.choice((0, huge % duration))
+        return rng.choice((
+            (start, start), (end, end), (end, start), (end, start + off), (start + off, end),
+            (start, end - off), (start + off, end + off), (start, DAY + off),
+            (start, DAY + duration), (DAY, DAY + duration), (start, huge), (huge, end),
+            (huge, huge), (2 ** 16 + start, end), (2 ** 32 + start, 2 ** 32 + end)))
+
+    def bad_windows(self, duration):
+        """Minutes with a bad window at one of nine places, in front of it good ones only."""
+        rng, place = self.rng, self.rng.randint(1, MOST_WINDOWS + 1)
+        minutes = self.good_windows(duration, place - 1)
+        if self.chance(0.25):              # without its end
+            return minutes + self.good_windows(duration, 1)[:1]
+        if place > MOST_WINDOWS and self.chance(0.7):
+            minutes += self.good_windows(duration, 1)
+        else:
+            minutes += self.bad_window(duration)
+        if self.chance(0.5):               # whatever follows, as many as there may be
+            minutes += self.good_windows(duration, rng.choice((1, 2, MOST_WINDOWS - 1, 12)))
+            minutes += rng.choice(((), (0,), (2 ** 64 - 1,), self.bad_window(duration)))
+        return minutes
+
     def opening(self):
         rng = self.rng
-        duration, meters, records, types = self.good_opening()
-        for _ in range(self.faults()):
-            fault = rng.choice(('record', 'record', 'twin', 'twin', 'cut', 'records',
-                                'type', 'type', 'types'))
-            if fault == 'record':
+        duration, meters, minutes, records, types = self.good_opening()
+        for _ in range(self.faults() + self.chance(0.8)):
+            fault = rng.choice(('record', 'record', 'twin', 'twin', 'cut', 'records', 'number',
+                                'number', 'last', 'advanced', 'type', 'type', 'types',
+                                *('windows',) * 6))
+            if fault == 'windows':
+                minutes = self.bad_windows(duration)
+            elif fault == 'last':          # the categories that name it keep its number
+                minutes = minutes[:-2]
+            elif fault == 'number':        # one beyond the list, or any
+                at = 8 * rng.randrange(len(records) // 8 or 1) + 5
+                number = rng.choice((len(minutes) // 2 + 1, self.strange_number()))
+                records = records[:at] + bytes([number]) + records[at + 1:]
+            elif fault == 'advanced':      # with a window
+                records += bytes((2, 0, 0, 1, 4, rng.choice((1, len(minutes) // 2)), 0, 1))
+            elif fault == 'record':
                 records = self.replaced(records, (0, 1, 3, 5, 15, 255))
             elif fault == 'twin':          # alike in the key only
                 records += records[:5] + bytes((0, 0, 9))
@@ -278,7 +379,7 @@ class Caller:
                 types = self.replaced(types, (0, 17, 255))
             elif fault == 'types':
                 types = rng.choice((b'', (801 * types)[:801]))
-        return [duration, meters, records, types]
+        return [duration, meters, minutes, records, types]
 
     def replaced(self, contents, values):
         """With another byte in one place."""

@@ -2,7 +2,8 @@
 
 import struct
 
-from library import CALLS, FIELDS, WIDTHS, Sizes, Store, make
+from library import CALLS, FIELDS, RECORDS, WIDTHS, Sizes, Store, make
+from program import WINDOWS
 from streams import TOP, valid_mpan
 from worked_example import reading
 
@@ -13,16 +14,18 @@ LARGEST = 2 ** 64 - 1                      # number, and entry of days
 class Case:
     """A store opened on parts that are full of other things, with a meter for each category.
 
-    A category is its key and its window. Other meters may be given, each by its category.
+    A category is its key and its window, which is one of the command program's unless others are
+    given. Other meters may be given, each by its category.
     """
 
-    def __init__(self, library, reached, duration, day_types, *categories, meters=None):
+    def __init__(self, library, reached, duration, day_types, *categories, meters=None,
+                 windows=WINDOWS):
         self.store, self.duration, self.categories = Store(library, reached), duration, categories
         self.meters = meters or range(len(categories))
         self.sizes = Sizes(duration, len(self.meters), len(categories), len(day_types))
         self.store.parts = {part: b'\xa5' * (WIDTHS[part] * (least + PAST))
                             for part, least in self.sizes.least().items()}
-        self.opening = (duration, len(self.meters),
+        self.opening = (duration, len(self.meters), windows,
                         b''.join(bytes((*category, 0, 1)) for category in categories),
                         bytes(day_types))
         self.open()
@@ -53,6 +56,17 @@ class Case:
                 for entry in ([row] * dates if isinstance(row, int) else row)]
         assert len(days) == self.sizes.least()['days'], 'an entry is missing'
         self.store.replace({**self.store.parts, 'days': struct.pack(f'{len(days)}Q', *days) + past})
+
+    def put_settings(self, first, *contents):
+        """Others than the opening left, from this byte on."""
+        settings = bytearray(self.store.parts['settings'])
+        settings[first:first + len(contents)] = contents
+        self.store.replace({**self.store.parts, 'settings': bytes(settings)})
+
+    def put_windows(self, *numbers):
+        """Other windows in the kept category records."""
+        for category, number in enumerate(numbers):
+            self.put_settings(RECORDS + 8 * category + 5, number)
 
     def ask(self, due, name, *arguments):
         """A read with its results, or the number of the refusal; lists for results hold a day."""

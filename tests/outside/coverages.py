@@ -12,7 +12,7 @@ import sys
 from collections import Counter
 
 from cases import LARGEST, Case
-from library import PARTS, Library
+from library import PARTS, RECORDS, Library
 
 # Categories without a window: two of one family, and one of none.
 HERE, THERE, ADVANCED = (1, 1, 1, 1, 1, 0), (1, 2, 1, 1, 1, 0), (2, 0, 0, 1, 1, 0)
@@ -220,9 +220,7 @@ def family(store):
 def foreign(store):
     """Parts that no call made: the two entries of a category and date say it all."""
     case = store(30, (1, 1), HERE, THERE)
-    settings = bytearray(case.store.parts['settings'])
-    settings[8:24] = bytes(16)             # of the category records only their count matters
-    case.store.replace({**case.store.parts, 'settings': bytes(settings)})
+    case.put_settings(RECORDS, *bytes(16))  # of the category records only their count matters
     case.put_days(([0, 1], [LARGEST, 2 + 3 * 2 ** 16 + 4 * 2 ** 32 + 5 * 2 ** 48], LARGEST, 0),
                   ([2 ** 48 + 6 * 2 ** 32 + 7, LARGEST], [0, LARGEST], 0, LARGEST))
     case.covers({0: 14, 1: (2, 3, 4, 5, 0), 2: 9})

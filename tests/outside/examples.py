@@ -21,6 +21,7 @@ from itertools import groupby
 from struct import pack
 
 from ledger import EXPORT, IMPORT, opening
+from program import WINDOWS
 from streams import TOP, valid_mpan
 
 ROOT = pathlib.Path(__file__).resolve().parents[2]
@@ -78,7 +79,7 @@ class Example:
     def __init__(self, days):
         records = b''.join(pack('>6BH', *category) for category in CATEGORIES)
         self.days = days
-        self.ledger = opening(DURATION, len(METERS), records, DAY_TYPES)
+        self.ledger = opening(DURATION, len(METERS), WINDOWS, records, DAY_TYPES)
 
     def lines(self):
         yield 'open: accepted'
@@ -207,7 +208,7 @@ class Example:
 
 def first_calls():
     """The lines of first_calls: each call with its number and results, or the place."""
-    ledger = opening(DURATION, 1, bytes((1, 1, 1, IMPORT, 1, 1, 0, 1)), (1, 1))
+    ledger = opening(DURATION, 1, WINDOWS[:2], bytes((1, 1, 1, IMPORT, 1, 1, 0, 1)), (1, 1))
     mpan = valid_mpan(100000000000)
     body = pack('>HBI', 30, 1, 500) + pack('>HBI', 480, 1, 250)
     calls = [('open', lambda: ('ok',)),
@@ -224,7 +225,7 @@ def first_calls():
 def saved_size():
     """A header of six numbers, then the parts by docs/STORE.md."""
     meters, categories, dates = len(METERS), len(CATEGORIES), len(DAY_TYPES)
-    settings = 8 + 8 * categories + dates
+    settings = 40 + 8 * categories + dates
     numbers = (41 * meters + dates * meters * (1 + PERIODS) + dates * categories * PERIODS
                + 4 * categories * dates)
     return 8 * (6 + numbers) + settings

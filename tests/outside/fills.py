@@ -98,7 +98,7 @@ def shaped(library, reached, duration, categories, moved):
     least = Sizes(duration, count, count, 3).least()
     store.parts = {part: bytes(WIDTHS[part] * least[part]) for part in PARTS}
     records = b''.join(bytes((*key, 0, 0, 1)) for key, _ in categories)
-    make(store, ('ok',), 'opening', duration, count, records, bytes((1, 1, 1)))
+    make(store, ('ok',), 'opening', duration, count, (), records, bytes((1, 1, 1)))
     for number, (key, values) in enumerate(categories):
         mpan = valid_mpan(number + 1)
         body = b''.join(reading(duration * j, wh) for j, wh in enumerate(values, 1))

@@ -11,7 +11,7 @@ refusals for lengths and for arguments out of range, what else a call may answer
 it must leave alone. The moved count of a run and the days that it leaves are worked out on
 every store, from what there was before it and the cells before and after it. A preview is
 compared on every store with a run of the compiled library on a copy, and a row is read
-entry by entry.
+entry by entry. What an opening leaves in the settings is compared byte for byte.
 """
 
 import ctypes
@@ -21,17 +21,21 @@ import sys
 from operator import ne
 from typing import NamedTuple
 
-from ledger import (BLANK, DAY, EXPORT, IMPORT, SMART, WINDOWS, Category, Cell, Ledger,
-                    Registration, mpan_good, no, opening, rounded, window_periods)
+from ledger import (BLANK, DAY, EXPORT, IMPORT, MOST_WINDOWS, SMART, Category, Cell, Ledger,
+                    Registration, Window, mpan_good, no, opening, rounded)
 
 FIELDS = 11                                # entries that `fields` has at least
 ENDINGS = {'fields': FIELDS, 'number': 1}  # what a call has last, with its entries
-HEADER = '>4H'                             # of the settings: duration, meters, categories, dates
+# Of the settings: duration, meters, categories, dates, then start and end of each window, those
+# that were not given 0 and 0.
+HEADER = '>20H'
+RECORDS = struct.calcsize(HEADER)          # where the category records begin
 
 # Each array that a call may be lent, with the struct letter of its entries.
 ARRAYS = {'settings': 'B', 'meters': 'Q', 'readings': 'Q', 'cells': 'Q', 'days': 'Q',
-          'draft': 'Q', 'category_records': 'B', 'day_types': 'B', 'body': 'B', 'missing': 'B',
-          'numbers': 'q', 'marks': 'B', 'dates': 'Q', 'filled': 'Q', 'fields': 'q', 'number': 'Q'}
+          'draft': 'Q', 'windows': 'Q', 'category_records': 'B', 'day_types': 'B', 'body': 'B',
+          'missing': 'B', 'numbers': 'q', 'marks': 'B', 'dates': 'Q', 'filled': 'Q', 'fields': 'q',
+          'number': 'Q'}
 WIDTHS = {name: struct.calcsize(letter) for name, letter in ARRAYS.items()}
 PARTS = ('settings', 'meters', 'readings', 'cells', 'days')
 ROWS = 4                                   # of a category in days: day, sums, TOT and OFF
@@ -68,7 +72,8 @@ def call(function, parts, written, arguments, lists, results, *checks):
 CALLS = {
     'opening': call('jihoweka_open', 'settings meters readings cells days',
                     'settings meters readings cells days',
-                    'duration meter_count category_records day_types', '', 0, 3, 4, 5, 1),
+                    'duration meter_count windows category_records day_types', '', 0,
+                    3, 19, 4, 5, 1),
     'registration': call('jihoweka_register', 'settings meters readings', 'meters',
                          'mpan date minute category sender status limit', '', 0,
                          1, 9, 6, 16, 8, 10, 11, 12),
@@ -103,11 +108,15 @@ OF_RECORDS = (1005, 1006, 1008, 1009, 1011, 1012)      # with a place always, 13
 
 
 def to_be_reached():
-    """(call, number) of all that must have been heard; what has two forms, in both."""
+    """(call, number) of all that must have been heard; what has two forms, in both.
+
+    A bad window at each place.
+    """
     keys = [(name, number) for name, made in CALLS.items()
             for number in dict.fromkeys((0, 1, *made.checks))]         # too few fields are 1
     keys += [('net of all groups', number) for number in (0, *CALLS['net'].checks)]
     keys += [('row of the draft', number) for number in (0, *CALLS['row'].checks) if number != 14]
+    keys += [(f'window {place} of an opening', 19) for place in range(1, MOST_WINDOWS + 2)]
     return [*keys, ('reception of a bad record', 13)]
 
 
@@ -118,6 +127,8 @@ def described(name, given):
         value = given[parameter]
         if parameter not in ARRAYS:
             shown.append(f'{parameter} {value}')
+        elif parameter == 'windows':
+            shown.append(f'{parameter} {entries_of(value)}')
         elif parameter in CALLS[name].arguments and parameter != 'draft':
             shown.append(f'{parameter} {value.hex() or "empty"}')
         else:
@@ -219,7 +230,7 @@ class Sizes(NamedTuple):
 
     def least(self):
         """The least lengths of the parts in entries, as docs/STORE.md has them."""
-        return {'settings': 8 + 8 * self.categories + self.dates,
+        return {'settings': RECORDS + 8 * self.categories + self.dates,
                 'meters': 41 * self.meters,
                 'readings': self.dates * self.meters * (1 + self.periods),
                 'cells': self.dates * self.categories * self.periods,
@@ -237,12 +248,18 @@ def sizes_of(ledger):
 
 def sizes_kept(settings):
     """The sizes in the header of any settings, or None where they say unopened."""
-    if len(settings) < struct.calcsize(HEADER):
+    if len(settings) < RECORDS:
         return None
-    sizes = Sizes(*struct.unpack_from(HEADER, settings))
+    sizes = Sizes(*struct.unpack_from(HEADER, settings)[:4])
     opened = (sizes.duration in (15, 30) and 1 <= sizes.meters <= 1024
               and 1 <= sizes.categories <= 64 and 1 <= sizes.dates <= 800)
     return sizes if opened else None
+
+
+def windows_kept(settings):
+    """All that the header of any settings has room for, whatever their minutes."""
+    minutes = struct.unpack_from(HEADER, settings)[4:]
+    return list(map(Window, minutes[::2], minutes[1::2]))
 
 
 def short(given, sizes):
@@ -281,6 +298,11 @@ def entries_of(contents, first=0, length=None):
     return [entry for entry, in struct.iter_unpack('Q', contents[8 * first:last])]
 
 
+def packed(numbers):
+    """The bytes of these numbers, as entries."""
+    return struct.pack(f'{len(numbers)}Q', *numbers)
+
+
 def day_of(cells):
     """The day of a category, from its cells on a date."""
     flags = [cell.flag for cell in cells]
@@ -289,10 +311,17 @@ def day_of(cells):
     return fresh + (blank << 16) + (oldest << 32) + RUN
 
 
-def tot_and_off(cells, window, duration):
-    """The entries of TOT and OFF for the same; a window that there is not has no periods."""
-    off_peak = window_periods(window, duration) if window in WINDOWS else ()
-    return sum(cell.value for cell in cells) + RUN, sum(cells[j - 1].value for j in off_peak)
+def off_peak(kept, number):
+    """The periods of the window with this number in any settings.
+
+    Those that the opening was not given have none, and what there is no room for neither.
+    """
+    return kept.windows[number - 1].periods(kept.duration) if 1 <= number <= MOST_WINDOWS else []
+
+
+def tot_and_off(cells, periods):
+    """The entries of TOT and OFF for the same, with the periods of the window."""
+    return sum(cell.value for cell in cells) + RUN, sum(cells[j - 1].value for j in periods)
 
 
 def summed(row, date, length):
@@ -322,6 +351,8 @@ class Store:
         told = dict(given)
         if 'draft' in given:
             told['draft'] = self.draft_told(given['draft'])
+        if 'windows' in given:
+            told['windows'] = entries_of(given['windows'])
         expected = self.expected(name, told)
         returned, after = self.library.call(name, given, null)
         came = self.heard(name, returned, given, after)
@@ -331,6 +362,8 @@ class Store:
             raise Difference(f'expected {expected}\ncame     {came}')
         self.test_unchanged(name, given, after, came)
         accepted = came[0] == 'ok'
+        if accepted and name == 'opening':
+            self.test_settings(told, after)
         if accepted and name == 'run':
             self.test_moved(given, after, came)
             self.test_days(given, after)
@@ -409,10 +442,11 @@ class Store:
     # What any store answers alike, from the parts that are lent
 
     def opening_kept(self, given):
-        """An empty ledger with the categories and day types of any settings."""
-        settings, after = given['settings'], 8 + 8 * self.sizes.categories
-        categories = [Category(*record) for record in struct.iter_unpack('>6BH', settings[8:after])]
-        return Ledger(self.sizes.duration, self.sizes.meters, categories,
+        """An empty ledger with the windows, categories and day types of any settings."""
+        settings, after = given['settings'], RECORDS + 8 * self.sizes.categories
+        records = struct.iter_unpack('>6BH', settings[RECORDS:after])
+        return Ledger(self.sizes.duration, self.sizes.meters, windows_kept(settings),
+                      [Category(*record) for record in records],
                       settings[after:after + self.sizes.dates])
 
     def opted_out_kept(self, given):
@@ -599,6 +633,15 @@ class Store:
                 raise Difference(f'came {came}, and entry {at} of {array} was changed '
                                  f'from {before[0]} to {now[0]}')
 
+    def test_settings(self, told, after):
+        """Whether the settings are those of the opening, byte for byte."""
+        unused = [0] * (2 * MOST_WINDOWS - len(told['windows']))
+        due = (struct.pack(HEADER, *self.sizes, *told['windows'], *unused)
+               + told['category_records'] + told['day_types'])
+        for at, pair in enumerate(zip(after['settings'], due)):
+            if pair[0] != pair[1]:
+                raise Difference(f'byte {at} of settings is {pair[0]} where {pair[1]} is due')
+
     def test_moved(self, given, after, came):
         """Whether a run counted the entries that it changed; on a date not run they are blank."""
         sizes = self.sizes
@@ -638,7 +681,7 @@ class Store:
         The date that is run, and the later run dates of its day type up to one whose row stays.
         """
         sizes, run = self.sizes, given['date']
-        day_types = given['settings'][8 + 8 * sizes.categories:]
+        day_types = given['settings'][RECORDS + 8 * sizes.categories:]
         width = WIDTHS['cells'] * sizes.categories * sizes.periods
         for date in range(run, sizes.dates):
             old, new = (cells[width * date:width * (date + 1)]
@@ -655,7 +698,8 @@ class Store:
         """Whether a run put day, TOT and OFF, and raised the sums by what changed, modulo 2^64."""
         dates, periods, least = self.sizes.dates, self.sizes.periods, self.sizes.least()['days']
         due = list(struct.unpack_from(f'{least}Q', given['days']))
-        windows = [category.window for category in self.opening_kept(given).categories]
+        kept = self.opening_kept(given)
+        windows = [off_peak(kept, category.window) for category in kept.categories]
         for date, row in self.rows_kept(given, after):
             for category, window in enumerate(windows):
                 first = ROWS * dates * category + date
@@ -664,7 +708,7 @@ class Store:
                 new = day_of(cells)
                 change = new % 2 ** 32 - due[day] % 2 ** 32
                 due[day] = new
-                due[tot], due[off] = tot_and_off(cells, window, self.sizes.duration)
+                due[tot], due[off] = tot_and_off(cells, window)
                 for ahead in range(min(YEAR, dates - date) if change else 0):
                     raised = (change << 32) + (change if ahead < WEEK else 0)
                     due[sums + ahead] = (due[sums + ahead] + raised) % 2 ** 64
@@ -683,16 +727,21 @@ class Store:
             name = 'row of the draft'
         if number == 13 and place:
             name = 'reception of a bad record'
+        if number == 19:
+            self.reached[f'window {place} of an opening', number] += 1
         self.reached[name, number] += 1
 
 
 def make(store, due, name, *arguments, length=0, **lent):
     """A call with the answer worked out by hand; ends the program where another one comes.
 
-    A list for results has so many entries, a part is as it stands unless it is given.
+    Windows are a list of minutes. A list for results has so many entries, a part is as it stands
+    unless it is given.
     """
     given = {part: store.parts[part] for part in CALLS[name].parts}
     given.update(zip(CALLS[name].arguments, arguments, strict=True))
+    if 'windows' in given:
+        given['windows'] = packed(given['windows'])
     given.update((each, b'\xa5' * (WIDTHS[each] * length)) for each in CALLS[name].lists)
     ending = CALLS[name].parameters[-1]
     given[ending] = b'\xa5' * (WIDTHS[ending] * ENDINGS[ending])

@@ -21,6 +21,7 @@ class Limits(NamedTuple):
     day_types: int
 
 
+WINDOWS = 0, 420, 30, 450                  # minutes: 00:00 to 07:00, 00:30 to 07:30
 PROFILES = {'small': Limits(3, 4, 384, 8), 'wide': Limits(8, 8, 370 * 96, 370)}
 
 
@@ -118,7 +119,7 @@ class Program:
         return body
 
     def open(self, duration, meters):
-        answer = opening(duration, meters, bytes(self.categories), self.day_types)
+        answer = opening(duration, meters, WINDOWS, bytes(self.categories), self.day_types)
         # Collected 11s and 12s are used up by a refused opening too.
         self.categories, self.day_types = bytearray(), bytearray()
         if not isinstance(answer, Ledger):

@@ -8,9 +8,10 @@ the order the paper gives them, senders by who has taken over by noon, moved by
 comparing every cell of every date, totals by minutes and fractions, nets by adding
 each cell with its sign, bands by adding each date's cells, fills by whole numbers,
 one Wh after the other, coverage by the age of each cell's date, previews from the list
-of calls with the run behind it. Then known slips: the ledger's text is changed in one
-place, and some stream, or for nets, bands, fills, coverage, totals after reruns, previews
-and rows some random store, must hear the difference.
+of calls with the run behind it, openings by what stands on the grid. Then known slips: the
+ledger's text is changed in one place, and some stream, or for nets, bands, fills, coverage,
+totals after reruns, previews and rows some random store, or for windows some random
+openings, must hear the difference.
 """
 
 import random
@@ -153,7 +154,7 @@ class Doubled(ledger.Ledger):
             return answer
         cells = self.all_cells(len(self.calls))
         window = self.categories[category].window
-        off_minutes = {0: range(0), 1: range(0, 7 * 60), 2: range(30, 7 * 60 + 30)}[window]
+        off_minutes = range(*self.windows[window - 1]) if window else ()
         tot = off = tot7 = off7 = year = days7 = days = 0
         for d in range(self.dates):
             if d > date or date - d >= 365 or self.last_run(len(self.calls), d) is None:
@@ -270,7 +271,42 @@ class Doubled(ledger.Ledger):
 
 
 def doubled(plain):
-    return Doubled(plain.duration, plain.meters, plain.categories, plain.day_types)
+    return Doubled(plain.duration, plain.meters, plain.windows, plain.categories, plain.day_types)
+
+
+def opened_twice(*given):
+    """An opening with its answer worked out twice: the refusal, or a doubled ledger."""
+    answer, refusal = ledger.opening(*given), refusal_of(*given)
+    assert refusal == (answer if isinstance(answer, tuple) else None)
+    Doubled.checked += 1
+    return refusal or doubled(answer)
+
+
+def refusal_of(duration, meters, minutes, category_bytes, day_types):
+    """Of an opening, or None."""
+    if (duration not in (15, 30) or meters not in range(1, 1025)
+            or len(category_bytes) not in range(8, 8 * 65, 8)
+            or len(day_types) not in range(1, 801)):
+        return 'no', 3, 0
+    grid = range(0, 24 * 60 + 1, duration)
+    windows, ends = 0, [*minutes[1::2], None]
+    for start, end in zip(minutes[::2], ends):
+        later = grid[grid.index(start) + 1:] if start in grid else ()
+        if windows == 8 or end not in later:
+            return 'no', 19, windows + 1
+        windows += 1
+    keys = []
+    for at in range(0, len(category_bytes), 8):
+        segment, group, domestic, quantity, connection, window, _, _ = category_bytes[at:at + 8]
+        kind = {1: (range(1, 15), (1, 2), range(windows + 1)), 2: ((0,), (0,), (0,))}
+        groups, homes, numbers = kind.get(segment, ((), (), ()))
+        keys.append((segment, group, domestic, quantity, connection))
+        if (group not in groups or domestic not in homes or window not in numbers
+                or quantity not in (1, 2) or connection not in (1, 2, 3, 4)
+                or keys.count(keys[-1]) > 1):
+            return 'no', 4, len(keys)
+    bad = [place for place, day_type in enumerate(day_types, 1) if day_type not in range(1, 17)]
+    return ('no', 5, bad[0]) if bad else None
 
 
 def half_up(fraction):
@@ -312,7 +348,7 @@ def small_store(opening, rng, limit=1000, dates=range(9)):
     """A store with all but two of these dates run, and a meter for each of six categories."""
     categories = [(*key, rng.randrange(3) if key[0] == 1 else 0, 0, rng.choice((0, 1, 1, 2)))
                   for key in rng.sample(KEYS, 6)]
-    store = opening(30, 6, b''.join(map(bytes, categories)),
+    store = opening(30, 6, program.WINDOWS, b''.join(map(bytes, categories)),
                     [rng.choice((1, 1, 2)) for _ in range(dates[-1] + 1)])
     for number in range(6):
         store.registration(valid_mpan(number + 1), 0, 0, number, 7, 1, limit)
@@ -425,13 +461,58 @@ def preview_answers(opening, seed):
     return answers
 
 
+def some_windows(rng, duration):
+    """Minutes of none to ten windows, on the grid and in order but for a fault here and there."""
+    minutes, grid = [], range(0, 1441, duration)
+    for _ in range(rng.choice((0, 1, 1, 2, 3, 7, 8, 8, 9, 10))):
+        window = sorted(rng.sample(grid, 2))
+        if rng.random() < 0.3:
+            window = rng.choice(((0, 1440), (0, duration), (1440 - duration, 1440), (0, 1410)))
+        if rng.random() < 0.06:
+            start, end = window
+            window = rng.choice(((start, start), (end, start), (start + 1, end), (start, end - 15),
+                                 (start + 15, end), (start, 1440 + duration), (start, end + 7)))
+        minutes += window
+    return minutes[:-1] if rng.random() < 0.1 else minutes
+
+
+def window_answers(opening, seed):
+    """Openings with windows of all kinds, and the totals of one day of each that is accepted."""
+    rng = random.Random(seed)
+    answers = []
+    for _ in range(20):
+        duration = rng.choice((15, 30))
+        minutes = some_windows(rng, duration)
+        keys = [(1, group, 1, 1, 1) for group in range(1, 5)] + [(2, 0, 0, 1, 1)]
+        count = len(minutes) // 2
+        numbers = [rng.choice((0, count, rng.randint(0, count))) for _ in range(4)] + [0]
+        if rng.random() < 0.3:             # beyond the list, or one of Advanced
+            numbers[rng.randrange(5)] = rng.choice((count + 1, count + 1, 1, 1, 255))
+        categories = b''.join(bytes((*key, number, 0, 1)) for key, number in zip(keys, numbers))
+        store = opening(rng.choice((duration, duration, duration, 0, 45 - duration)),
+                        rng.choice((1, 1, 1, 1, 0)), minutes, categories,
+                        rng.choice(((1,), (1,), (1,), (0,))))
+        answers.append(store if isinstance(store, tuple) else one_day(store, rng))
+    return answers
+
+
+def one_day(store, rng):
+    """The totals of all categories where every period has a reading, each a random one."""
+    body = b''.join(reading(end, rng.randint(0, TOP))
+                    for end in range(store.duration, 1441, store.duration))
+    mpan = valid_mpan(1)
+    return [store.registration(mpan, 0, 0, 0, 7, 1, TOP),
+            store.reception(7, mpan, 0, store.duration, 1, body), store.run(0),
+            *(store.totals(0, category) for category in range(len(store.categories)))]
+
+
 def check_twice(streams, commands, stores):
     for seed in range(streams):
         list(Doubling(stream(seed, 'small', commands), program.PROFILES['small']).answers())
     for seed in range(stores):
         for answers in (net_answers, band_answers, fill_answers, coverage_answers, totals_answers,
-                        preview_answers):
-            answers(lambda *given: doubled(ledger.opening(*given)), seed)
+                        preview_answers, window_answers):
+            answers(opened_twice, seed)
     return Doubled.checked
 
 
@@ -771,8 +852,8 @@ TOTALS_SLIPS = [
     ('scales by dates not run', 'rounded(annual * 365, len(year))',
      'rounded(annual * 365, min(365, date + 1))'),
     ('rounds ANN down', 'rounded(annual * 365, len(year))', 'annual * 365 // len(year)'),
-    ('takes one window for the other', 'off_peak = window_periods(window, ',
-     'off_peak = window_periods((0, 2, 1)[window], '),
+    ('takes one window for the other', 'off_peak = self.windows[window - 1]',
+     'off_peak = self.windows[2 - window]'),
     ('takes OFF for PEAK', 'return tot(dates) - off(dates) if', 'return off(dates) if'),
     ('keeps the TOT that it gave first', 'return self.tot(dates, category)',
      'kept = self.__dict__.setdefault("kept", {})\n'
@@ -899,6 +980,74 @@ PREVIEW_SLIPS = [
      '        if from_draft'),
 ]
 
+# And for windows.
+WINDOW_SLIPS = [
+    ('takes an end off the grid', 'self.start % duration == self.end % duration == 0',
+     'self.start % duration == 0'),
+    ('takes a start off the grid', 'self.start % duration == self.end % duration == 0',
+     'self.end % duration == 0'),
+    ('has a grid of quarters at any duration', 'self.start % duration == self.end % duration == 0',
+     'self.start % 15 == self.end % 15 == 0'),
+    ('has a grid of half hours at any duration',
+     'self.start % duration == self.end % duration == 0', 'self.start % 30 == self.end % 30 == 0'),
+    ('takes a start that is the end', 'self.start < self.end <= DAY',
+     'self.start <= self.end <= DAY'),
+    ('takes a start past the end', 'self.start < self.end <= DAY', 'self.end <= DAY'),
+    ('takes an end past the day', 'self.start < self.end <= DAY', 'self.start < self.end'),
+    ('refuses an end at midnight', 'self.start < self.end <= DAY', 'self.start < self.end < DAY'),
+    ('takes a ninth', 'MOST_WINDOWS = 8 ', 'MOST_WINDOWS = 9 '),
+    ('takes any number of windows', 'place > MOST_WINDOWS or ', ''),
+    ('refuses an eighth', 'MOST_WINDOWS = 8 ', 'MOST_WINDOWS = 7 '),
+    ('drops a start without an end', 'range(0, len(minutes), 2)', 'range(0, len(minutes) - 1, 2)'),
+    ('has a window without an end last to midnight',
+     'both = minutes[first:first + 2]  ', 'both = [*minutes[first:], DAY][:2]  '),
+    ('finds a missing end before all', '    windows = []\n',
+     '    windows = []\n    if len(minutes) % 2: return no(19, len(minutes) // 2 + 1)\n'),
+    ('finds a ninth before all', '    windows = []\n',
+     '    windows = []\n    if len(minutes) > 2 * MOST_WINDOWS: return no(19, 9)\n'),
+    ('finds the last bad window', 'in enumerate(range(0, len(minutes), 2), 1):\n',
+     'in [*enumerate(range(0, len(minutes), 2), 1)][::-1]:\n'),
+    ('counts the places from 0', 'return no(19, place)', 'return no(19, place - 1)'),
+    ('gives the place of the minute', 'return no(19, place)', 'return no(19, 2 * place - 1)'),
+    ('gives no place', 'return no(19, place)', 'return no(19)'),
+    ('gives the number of the windows as the place of a ninth', 'return no(19, place)',
+     'return no(19, (len(minutes) + 1) // 2 if place == 9 else place)'),
+    ('says 4 of a window', 'return no(19, place)', 'return no(4, place)'),
+    ('says 3 of a window', 'return no(19, place)', 'return no(3)'),
+    ('looks at the categories before the windows', '    windows = []\n',
+     '    windows = []\n'
+     '    for place, record in enumerate(iter_unpack(">6BH", category_bytes), 1):\n'
+     '        if not Category(*record).good(len(minutes) // 2): return no(4, place)\n'),
+    ('looks at the day types before the windows', '    windows = []\n',
+     '    windows = []\n    if day_types[0] == 0: return no(5, 1)\n'),
+    ('looks at the windows before the sizes', '    if not (duration in (15, 30) and 1 <= meters',
+     '    for place, first in enumerate(range(0, len(minutes), 2), 1):\n'
+     '        both = minutes[first:first + 2]\n'
+     '        if place > 8 or len(both) < 2 or not Window(*both).good(duration or 30):\n'
+     '            return no(19, place)\n'
+     '    if not (duration in (15, 30) and 1 <= meters'),
+    ('has room for a window more than the list has', '    categories = []\n',
+     '    windows.append(Window(0, 0))\n    categories = []\n'),
+    ('takes no category with the last window', 'self.window <= windows)', 'self.window < windows)'),
+    ('wants a window of every category', 'and self.window <= windows)',
+     'and 1 <= self.window <= windows)'),
+    ('takes Advanced with a window', 'self.group == self.domestic == self.window == 0',
+     'self.group == self.domestic == 0 and self.window <= windows'),
+    ('takes the window behind the one that is named', 'self.windows[window - 1]',
+     'self.windows[window % len(self.windows)]'),
+    ('counts the windows from the last', 'self.windows[window - 1]', 'self.windows[-window]'),
+    ('takes the first window for all', 'self.windows[window - 1]', 'self.windows[0]'),
+    ('joins all windows', 'off_peak = self.windows[window - 1].periods(self.duration) if window',
+     'off_peak = sorted({j for w in self.windows for j in w.periods(self.duration)}) if window'),
+    ('has periods of half hours at any duration', '.periods(self.duration) if', '.periods(30) if'),
+    ('leaves the first period out', 'if self.start <= (j - 1) * duration',
+     'if self.start < (j - 1) * duration'),
+    ('leaves the last period out', 'j * duration <= self.end]', 'j * duration < self.end]'),
+    ('takes the period before', 'if self.start <= (j - 1) * duration',
+     'if self.start <= j * duration'),
+    ('takes the period behind', 'j * duration <= self.end]', '(j - 1) * duration <= self.end]'),
+]
+
 
 def changed_program(old, new):
     """The command program on the ledger with one place of its text changed."""
@@ -952,7 +1101,9 @@ def main():
              and heard_each(TOTALS_SLIPS, 'store',
                             lambda program, seed: totals_answers(program.opening, seed))
              and heard_each(PREVIEW_SLIPS, 'store',
-                            lambda program, seed: preview_answers(program.opening, seed)))
+                            lambda program, seed: preview_answers(program.opening, seed))
+             and heard_each(WINDOW_SLIPS, 'list',
+                            lambda program, seed: window_answers(program.opening, seed)))
     return 0 if heard else 1
 
 

@@ -11,7 +11,7 @@ import random
 import sys
 
 from ledger import DAY, MIDDAY, WEIGHTS, Category, Ledger, Opened, Registration, opening
-from program import PROFILES
+from program import PROFILES, WINDOWS
 
 TOP = 2 ** 32 - 1                          # the largest Wh and limit
 
@@ -71,7 +71,7 @@ class Maker:
         firsts += rng.sample(range(2, 10 ** 6), 2) + rng.sample(range(2 * 10 ** 11, 10 ** 12), 6)
         self.pool = [valid_mpan(first) for first in rng.sample(firsts, self.limits.meters + 1)]
         # Aims for calls before the first accepted opening.
-        self.notes = Notes(30, 1, [Category(1, 1, 1, 1, 1, 1, 1)], [1, 1])
+        self.notes = Notes(30, 1, [], [Category(1, 1, 1, 1, 1, 0, 1)], [1, 1])
         self.hot, self.busy = [1], [0]
         self.opened = False
 
@@ -183,11 +183,12 @@ class Maker:
         for piece in pieces:
             self.collect(piece)
         self.send(command(0x10, duration, 1, meters, 2))
-        answer = opening(duration, meters, self.categories, self.day_types)
+        answer = opening(duration, meters, WINDOWS, self.categories, self.day_types)
         self.categories = self.day_types = b''
         if (isinstance(answer, Ledger) and meters <= limits.meters
                 and answer.dates * answer.periods <= limits.date_periods):
-            self.accepted(Notes(duration, meters, answer.categories, answer.day_types))
+            self.accepted(Notes(duration, meters, answer.windows, answer.categories,
+                                answer.day_types))
 
     def accepted(self, notes):
         self.notes, self.opened = notes, True

@@ -12,7 +12,7 @@ import sys
 from collections import Counter
 
 from cases import LARGEST, Case
-from library import RUN, Library
+from library import RECORDS, RUN, Library
 from streams import TOP
 
 # Categories by their windows: three groups of one family, and one of none. Window 1 is periods 1
@@ -40,13 +40,6 @@ class Totals(Case):
 
     def band(self, least, most, *dates, category=0, day_type=1):
         self.ask((len(dates), len(dates), list(dates)), 'band', category, day_type, least, most)
-
-    def put_windows(self, *windows):
-        """Others than the opening took, in the kept category records."""
-        settings = bytearray(self.store.parts['settings'])
-        for category, window in enumerate(windows):
-            settings[8 + 8 * category + 5] = window
-        self.store.replace({**self.store.parts, 'settings': bytes(settings)})
 
 
 def first_runs(store):
@@ -347,9 +340,7 @@ def foreign(store):
     case.totals(flat)
     case.totals(due, category=1)
     case.totals(due, category=2)
-    settings = bytearray(case.store.parts['settings'])
-    settings[32:40] = 1, 1, 16, 0, 17, 1, 255, 2
-    case.store.replace({**case.store.parts, 'settings': bytes(settings)})
+    case.put_settings(RECORDS + 24, 1, 1, 16, 0, 17, 1, 255, 2)
     case.band(0, LARGEST, 0, 1)
     case.band(0, LARGEST, 2, day_type=16)
     for day_type in 0, 17, 255, 2 ** 8 + 1:

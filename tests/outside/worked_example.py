@@ -1,10 +1,10 @@
-"""The paper's worked example, its marked list, a net, bands, coverage, remainders and a preview
-worked by hand, on the plain ledger.
+"""The paper's worked example, its marked list, a net, bands, coverage, remainders, a preview and
+windows worked by hand, on the plain ledger.
 
     python3 worked_example.py
 """
 
-from ledger import mpan_good, opening, period_ending, rounded, window_periods
+from ledger import Window, mpan_good, opening, period_ending, rounded
 from program import run
 
 INPUT = bytes.fromhex('''
@@ -28,7 +28,7 @@ def reading(end, wh, quality=1):
 
 
 def store(*categories, dates=1, meters=4):
-    ledger = opening(30, meters, b''.join(map(bytes, categories)), [1] * dates)
+    ledger = opening(30, meters, (), b''.join(map(bytes, categories)), [1] * dates)
     assert not isinstance(ledger, tuple), ledger
     return ledger
 
@@ -55,8 +55,8 @@ def marked_list():
     assert ledger.cell(0, 0, 48) == ('ok', 'A', 5, 1, 0, 0)
 
     # Window 2.
-    assert window_periods(2, 30) == list(range(2, 16))
-    assert window_periods(2, 15) == list(range(3, 31))
+    assert Window(30, 450).periods(30) == list(range(2, 16))
+    assert Window(30, 450).periods(15) == list(range(3, 31))
 
     # De-minimis 0 without readings and predecessor.
     ledger = store(plain)
@@ -73,7 +73,7 @@ def marked_list():
 
     # ANN of sum 1,000 over 3 days: one reading of 1,000, then two dates without a copy.
     assert rounded(1000 * 365, 3) == 121667
-    ledger = opening(30, 1, bytes(plain), [3, 2, 1])
+    ledger = opening(30, 1, (), bytes(plain), [3, 2, 1])
     assert ledger.registration(1000000000003, 0, 0, 0, 7, 1, 10000) == ('ok',)
     assert ledger.reception(7, 1000000000003, 0, 30, 1, reading(30, 1000)) == ('ok',)
     assert [ledger.run(date) for date in range(3)] == [('ok', 1), ('ok', 0), ('ok', 0)]
@@ -118,7 +118,7 @@ def net_of_panels():
 
 def days_like_the_coming_one():
     """Dates by their TOT: one of another day type among them, and the last not run at first."""
-    ledger = opening(30, 1, bytes((1, 1, 1, 1, 1, 0, 0, 1)), [1, 2, 1, 1, 1])
+    ledger = opening(30, 1, (), bytes((1, 1, 1, 1, 1, 0, 0, 1)), [1, 2, 1, 1, 1])
     assert ledger.registration(1000000000003, 0, 0, 0, 7, 1, 2 ** 32 - 1) == ('ok',)
     for date, wh in enumerate((700, 700, 900, 650)):
         assert ledger.reception(7, 1000000000003, date, 30, 1, reading(30, wh)) == ('ok',)
@@ -210,6 +210,34 @@ def before_publishing():
     assert ledger.run(0) == ('ok', 4) and ledger.row(draft, 0, 0, 0) == ('ok', new)
 
 
+def off_peak_hours():
+    """Windows of any hours, 10 Wh in every period."""
+    def opened(duration, minutes, window):
+        return opening(duration, 1, minutes, bytes((1, 1, 1, 1, 1, window, 0, 1)), [1])
+
+    def first_three(duration, minutes, window):
+        ledger = opened(duration, minutes, window)
+        assert ledger.registration(1000000000003, 0, 0, 0, 7, 1, 10000) == ('ok',)
+        body = b''.join(reading(end, 10) for end in range(duration, 1441, duration))
+        assert ledger.reception(7, 1000000000003, 0, duration, 1, body) == ('ok',)
+        assert ledger.run(0) == ('ok', 1440 // duration)
+        ok, *totals = ledger.totals(0, 0)
+        assert ok == 'ok' and totals[:3] == totals[3:6]
+        return totals[:3]
+
+    assert first_three(30, (600, 720), 1) == [480, 40, 440]
+    assert first_three(30, (0, 420, 1380, 1440), 2) == [480, 20, 460]
+    assert first_three(15, (45, 75), 1) == [960, 20, 940]
+    assert first_three(30, (0, 1440), 1) == [480, 480, 0]
+    assert first_three(30, (0, 1440), 0) == first_three(30, (), 0) == [480, 0, 0]
+    for minutes, place in (((45, 75), 1), ((0, 420, 450, 450), 2), ((0, 420, 30), 2),
+                           ((0, 30, 60, 30, 0), 2), ((0, 30) * 9, 9), ((0, 30) * 10, 9)):
+        assert opened(30, minutes, 0) == ('no', 19, place)
+    # One window and a category with window 2; a list of none and one with window 1.
+    assert opened(30, (0, 30), 2) == opened(30, (), 1) == ('no', 4, 1)
+    assert opened(30, (0, 30) * 8, 9) == ('no', 4, 1)
+
+
 if __name__ == '__main__':
     assert run(INPUT) == OUTPUT
     marked_list()
@@ -218,4 +246,6 @@ if __name__ == '__main__':
     real_part_of_a_week()
     what_rounding_dropped()
     before_publishing()
-    print('worked example, marked list, net, bands, coverage, remainders and preview agree')
+    off_peak_hours()
+    print('worked example, marked list, net, bands, coverage, remainders, preview and windows '
+          'agree')

@@ -4,6 +4,7 @@ use mathlib.Core.Bool.{Bool, false, cond}
 use mathlib.Core.List.{List, [], _++_}
 use lib.ListN.{length, take, drop, getD}
 use lib.Dec.{leb, eqb}
+use Rattle.ledger.specs.Method.{methodWindows}
 use Rattle.ledger.specs.Checks.{RegistrationCall, ReceptionCall, Verdict}
 use Rattle.ledger.specs.Ledger.{Call, register, receive, run, readTotals, readCell, Answer, accepted, answer, Opening}
 use Rattle.ledger.specs.Calls.{openingVerdict}
@@ -28,11 +29,13 @@ code command = getD command 0 0
 
 -- ---- openings
 
+-- with METH005's windows
 abbrev pub openingOf : List ℕ → List ℕ → List ℕ → Opening
 openingOf command categoryBytes dayTypes =
     record {
       duration = openingOperands command .duration;
       meters = openingOperands command .meters;
+      windowMinutes = methodWindows;
       categoryBytes = categoryBytes;
       dayTypes = dayTypes;
     }

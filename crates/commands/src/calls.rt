@@ -24,7 +24,7 @@ ghost use Rattle.output.specs.Text.{Appended};
 ghost use Rattle.output.specs.Lines.{answerLine};
 ghost use Rattle.commands.specs.Commands.{partsOf, code, openingOf, openingAnswer, openingLeaves, registrationOf, receptionOf, callOf};
 
-// An opening that the parts do not suffice for is lent empty ones.
+// The windows are METH005's. An opening that the parts do not suffice for is lent empty ones.
 pub fn open(
     command: &[u8],
     category_records: &[u8],
@@ -48,6 +48,7 @@ pub fn open(
         duration: given.duration,
         meters: given.meters,
     };
+    let windows = [0u64, 420, 30, 450];
     let dates = day_types.len() as u64;
     if parts_suffice(capacity, given.duration, given.meters, dates) {
         let outcome = engine::open(
@@ -57,6 +58,7 @@ pub fn open(
             cells,
             days,
             terms,
+            &windows,
             category_records,
             day_types,
         );
@@ -69,6 +71,7 @@ pub fn open(
         &mut cells[..0],
         &mut days[..0],
         terms,
+        &windows,
         category_records,
         day_types,
     );

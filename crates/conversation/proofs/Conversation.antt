@@ -290,7 +290,7 @@ unfolding metersOf word
 zeros-unready n =
     cases (settingsReady (replicate n 0))
     (λ t.
-    let long : 8 ≤ n = rw length-replicate at (header-there (replicate n 0) t) in
+    let long : headerLength ≤ n = rw length-replicate at (header-there (replicate n 0) t) in
     absurd (omega (arith, ready (replicate n 0) t .meters .0, getD-replicate {A = ℕ} n 2 0 0 (omega arith), getD-replicate {A = ℕ} n 3 0 0 (omega arith))))
     (λ f. f)
 

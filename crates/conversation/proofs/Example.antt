@@ -8,9 +8,9 @@ use Rattle.metering.specs.Sum.{sumBelow}
 use Rattle.metering.specs.Mpan.{mpanValid, checkDigit, weightedSum, product, digit, weights}
 use Rattle.metering.specs.Average.{average, remainder, annual}
 use Rattle.metering.specs.Range.{between, metersInRange, categoriesInRange, datesInRange, dayTypeValid, smartValid, categoryValid}
-use Rattle.metering.specs.Calendar.{durationKnown, periodsPerDay, periodEnding, liesWithin, windowStart, windowEnd}
-use Rattle.ledger.specs.Method.{categoryAt, isSmart, sameFamily, total, isEnough, freshOf, freshIn, blank, carried, cellFrom, afterDate, latest, cellOf, cellOn, sameCell, movedCell, overRunDates, totOn, offOn, peakOn, freshAmong, blanksAmong, totalsOn}
-use Rattle.ledger.specs.Checks.{firstFailed, anyBelow, recordAt, categoryNumber, dayTypeNumber, orElse, sizesValid, openingCheck, firstNumber, callNumber, contentNumber, recordNumberIf, recordNumber, endMinute, quality, wattHoursAt, momentOf, startOf, starts, later, latestFrom, inForce, appointed, fieldsNumber, meterNumber, registrationCheck, headerNumber, bodyCheck, inForceCheck, receptionCheck, isReading, readingIn, runCheck, readCheck, totalsInRange, cellInRange}
+use Rattle.metering.specs.Calendar.{durationKnown, periodsPerDay, periodEnding, liesWithin, windowValid}
+use Rattle.ledger.specs.Method.{categoryAt, windowAt, isSmart, sameFamily, total, isEnough, freshOf, freshIn, blank, carried, cellFrom, afterDate, latest, cellOf, cellOn, sameCell, movedCell, overRunDates, totOn, offOn, peakOn, freshAmong, blanksAmong, totalsOn}
+use Rattle.ledger.specs.Checks.{firstFailed, anyBelow, windowNumber, recordAt, categoryNumber, dayTypeNumber, orElse, sizesValid, openingCheck, firstNumber, callNumber, contentNumber, recordNumberIf, recordNumber, endMinute, quality, wattHoursAt, momentOf, startOf, starts, later, latestFrom, inForce, appointed, fieldsNumber, meterNumber, registrationCheck, headerNumber, bodyCheck, inForceCheck, receptionCheck, isReading, readingIn, runCheck, readCheck, totalsInRange, cellInRange}
 use Rattle.ledger.specs.Sizes.{settingsLength, metersLength, readingsLength, cellsLength, daysLength}
 use Rattle.ledger.specs.Ledger.{start, answer, left, settingsShort, metersShort, cellsShort, daysShort, anyShort, meterWith, changed, ledgerRegistrationCheck, registerIn, afterRegistration, ledgerReceptionCheck, setOf, at, afterReception, cellBy, cellAt, isRun, ledgerRunCheck, pictureOf, afterRun, movedBetween, ledgerTotalsCheck, ledgerCellCheck, totalsAt, ledgerAnswer, ledgerAfter}
 use Rattle.ledger.specs.Engine.{Every}
@@ -37,7 +37,7 @@ all-print text [] c = tt
 all-print text (input ∷ inputs) c = (prints input text (c .0), all-print text inputs (c .1))
 
 computed : Computed exampleInput exampleOutput × Computed unopenedInput unopenedOutput × Every (λ input. Computed input badOutput) badInputs
-unfolding outputOf progress obeyed plainLine plainAfter plainAnswer ledgerLeft plainOpening partsSuffice callOf bigEndian bodyOf extentOf commandExtent recordsExtent headLength isOverfull answerLine decimalIn decimalText energyText openingCheck sizesValid durationKnown metersInRange categoriesInRange datesInRange recordAt categoryNumber dayTypeNumber smartValid categoryValid dayTypeValid start ledgerAnswer ledgerAfter answer left settingsShort metersShort cellsShort daysShort anyShort meterWith changed ledgerRegistrationCheck registerIn afterRegistration ledgerReceptionCheck setOf at afterReception cellBy cellAt isRun ledgerRunCheck pictureOf afterRun movedBetween ledgerTotalsCheck ledgerCellCheck totalsAt settingsLength metersLength readingsLength cellsLength daysLength firstFailed momentOf startOf starts later latestFrom inForce appointed meterNumber registrationCheck bodyCheck inForceCheck receptionCheck isReading readingIn runCheck readCheck totalsInRange cellInRange movedCell overRunDates totOn offOn peakOn freshAmong blanksAmong totalsOn categoryAt mpanValid checkDigit weightedSum product digit weights sumBelow average remainder annual recordNumber periodEnding periodsPerDay liesWithin windowStart windowEnd between sameCell blank cellOn cellOf cellFrom latest afterDate freshIn freshOf isEnough total isSmart sameFamily anyBelow endMinute quality wattHoursAt carried orElse firstNumber callNumber fieldsNumber headerNumber recordNumberIf contentNumber
+unfolding outputOf progress obeyed plainLine plainAfter plainAnswer ledgerLeft plainOpening partsSuffice callOf bigEndian bodyOf extentOf commandExtent recordsExtent headLength isOverfull answerLine decimalIn decimalText energyText openingCheck sizesValid durationKnown metersInRange categoriesInRange datesInRange recordAt categoryNumber dayTypeNumber smartValid categoryValid dayTypeValid start ledgerAnswer ledgerAfter answer left settingsShort metersShort cellsShort daysShort anyShort meterWith changed ledgerRegistrationCheck registerIn afterRegistration ledgerReceptionCheck setOf at afterReception cellBy cellAt isRun ledgerRunCheck pictureOf afterRun movedBetween ledgerTotalsCheck ledgerCellCheck totalsAt settingsLength metersLength readingsLength cellsLength daysLength firstFailed momentOf startOf starts later latestFrom inForce appointed meterNumber registrationCheck bodyCheck inForceCheck receptionCheck isReading readingIn runCheck readCheck totalsInRange cellInRange movedCell overRunDates totOn offOn peakOn freshAmong blanksAmong totalsOn categoryAt mpanValid checkDigit weightedSum product digit weights sumBelow average remainder annual recordNumber periodEnding periodsPerDay liesWithin windowAt windowNumber windowValid between sameCell blank cellOn cellOf cellFrom latest afterDate freshIn freshOf isEnough total isSmart sameFamily anyBelow endMinute quality wattHoursAt carried orElse firstNumber callNumber fieldsNumber headerNumber recordNumberIf contentNumber
 computed = ((refl, refl), (refl, refl), ((refl, refl), ((refl, refl), ((refl, refl), ((refl, refl), ((refl, refl), ((refl, refl), ((refl, refl), tt))))))))
 
 pub worked-dialogue : WorkedDialogue

@@ -18,7 +18,7 @@ standardSetup = record { categoryRoom = 24; dayTypeRoom = 8; capacity = record {
 
 -- the parts that these take
 abbrev pub standardLengths : Lengths
-standardLengths = record { settings = 40; meters = 164; readings = 1568; cells = 1152; days = 48 }
+standardLengths = record { settings = 72; meters = 164; readings = 1568; cells = 1152; days = 96 }
 
 -- a text's characters as bytes
 abbrev pub bytesOf : string.String → List ℕ

@@ -1,6 +1,7 @@
 -- A row counted and summed cell by cell, sums by wrapping differences, and days put category by category.
-use Prim.Native.Nat.{ℕ, _+_, _-_, _*_, _%_, _≤_, _<_, min}
+use Prim.Native.Nat.{ℕ, suc, _+_, _-_, _*_, _%_, _≤_, _<_, min}
 use mathlib.Core.Path.{_≡_, refl, sym, ap, _∙_}
+use mathlib.Core.Bool.{Bool, cond}
 use mathlib.Core.List.{List, append-assoc}
 use native.Mathlib.Omega.{arith}
 use native.Mathlib.Numerals.{add-one}
@@ -9,9 +10,10 @@ use lib.ListN.{length, getD, take, drop, set}
 use lib.Seq.{sets-eq, drop-drop}
 use borrow.Author.Tests.{eq-eqb, ne-eqb}
 use Rattle.metering.specs.Sum.{sumBelow, sumBelow-zero, sumBelow-suc}
-use Rattle.ledger.specs.Method.{Cell, isFresh, isBlank, freshAmong, blanksAmong, originOf, oldestAmong}
+use Rattle.metering.specs.Calendar.{periodsPerDay, liesWithin, covers, PeriodsWithin}
+use Rattle.ledger.specs.Method.{Window, Cell, isFresh, isBlank, freshAmong, blanksAmong, originOf, oldestAmong}
 use Rattle.ledger.specs.Table.{tabulate}
-use Rattle.ledger.specs.Store.{durationOf, categoriesOf, datesOf, periodsOf, rowLength, categoryOf, cellOfEntry, dayRow, sumRow, totRow, offRow, dayIndex, DayEntries, dayEntry, dayEntryOf, totEntry, totAmong, offAmong, dayEntriesOf, countsOf}
+use Rattle.ledger.specs.Store.{durationOf, categoriesOf, datesOf, periodsOf, windowOf, rowLength, categoryOf, cellOfEntry, dayRow, sumRow, totRow, offRow, dayIndex, DayEntries, dayEntry, dayEntryOf, totEntry, totAmong, offAmong, dayEntriesOf, countsOf}
 use Rattle.ledger.specs.Calls.{wrappingSum, wrappingDifference, raised, raisedSums, placed, putDay, entriesFor, keptDays}
 use Rattle.entries.specs.Row.{spliced}
 use Rattle.entries.specs.Sums.{Summed}
@@ -19,8 +21,8 @@ use Rattle.ledger.proofs.Lists.{length-tabulate, tabulate-ext, part-length, par
 use Rattle.ledger.proofs.Days.{fresh-most, blanks-most, oldest-most}
 use Rattle.ledger.proofs.Kept.{for-cong}
 use Rattle.store.specs.DayRows.{RowsFit}
-use Rattle.days.specs.declared.window.Stretch.{Stretch}
-use Rattle.days.specs.Window.{entriesIn, OffPeak}
+use Rattle.metering.specs.declared.calendar.Stretch.{Stretch}
+use Rattle.days.specs.Window.{entriesIn}
 use Rattle.days.proofs.WindowLaws.{sum-of-stretch}
 
 -- ---- a row so far
@@ -141,10 +143,18 @@ next-start c P at periods start is = rw (start, is, add-one c) (sym (suc-mul c P
 -- ---- a category's entries
 
 -- the window's periods are those that the definition sums for OFF
-pub entries-are : (s : List ℕ) (c duration number : ℕ) (window : Stretch) (cells : ℕ → Cell) → duration ≡ durationOf s → number ≡ categoryOf s c .window → OffPeak duration number window →
-    entriesIn window (periodsOf s) cells ≡ entriesFor s c cells
-unfolding entriesFor dayEntriesOf offAmong
-entries-are s c duration number window cells d n peak = rw (peak .lies, d, n)
+pub entries-are : (s : List ℕ) (c duration number : ℕ) (own : Window) (stretch : Stretch) (cells : ℕ → Cell) → duration ≡ durationOf s → number ≡ categoryOf s c .window →
+    own ≡ windowOf s number → PeriodsWithin duration (own .start) (own .end) stretch → entriesIn stretch (periodsOf s) cells ≡ entriesFor s c cells
+unfolding entriesFor dayEntriesOf offAmong periodsOf
+entries-are s c duration number own stretch cells d n w periods =
+    rw (← n, ← w, ← d)
+    (λ i.
+    record {
+      day = dayEntryOf (periodsPerDay duration) cells;
+      tot = totEntry (totAmong (periodsPerDay duration) cells);
+      off = sumBelow-cong (periodsPerDay duration) (λ k. cond (covers stretch k) (cells k .value) 0) (λ k. cond (liesWithin duration (own .start) (own .end) (suc k)) (cells k .value) 0)
+          (λ k l. ap (λ (t : Bool). cond t (cells k .value) 0) (periods .lies k l)) i;
+    })
 
 -- TOT and OFF of a row
 pub entries-summed : (window : Stretch) (row : List ℕ) (w first day tot off value : ℕ) → window .first + window .count ≤ length row → first ≡ window .first → w ≡ window .count →

@@ -3,4 +3,3 @@ pub mod keep;
 mod put;
 mod row;
 mod sums;
-pub mod window;

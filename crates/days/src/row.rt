@@ -1,5 +1,4 @@
 // A category's day, counted and summed in its row of cells.
-use crate::window::Stretch;
 use entries::day::blank_in;
 use entries::day::day_entry;
 use entries::day::fresh_in;
@@ -7,6 +6,7 @@ use entries::day::lower_half;
 use entries::day::origin_in;
 use entries::day::tot_entry;
 use entries::day::value_in;
+use metering::calendar::Stretch;
 use store::day_rows::DayEntries;
 ghost use mathlib.Core.Path.{_≡_};
 ghost use Prim.Native.Nat.{_+_, _≤_, min};

@@ -1,22 +1,23 @@
 -- Every field of every answer fits a signed number of 64 bits, whatever the parts hold.
 use Prim.Native.Nat.{ℕ, zero, suc, _+_, _-_, _*_, _/_, _≤_, _<_, zero-le}
 use mathlib.Core.Path.{_≡_}
+use mathlib.Core.Logic.{_≢_}
 use mathlib.Core.Bool.{Bool, _&&_, cond, and-eq-true-iff}
 use mathlib.Core.List.{List}
 use mathlib.Core.Option.{Option, none, some}
 use native.Mathlib.Omega.{arith}
-use native.Mathlib.Nat.{suc-mul, div-le-self, mul-le-mul-left, mul-le-mul-right}
+use native.Mathlib.Nat.{add-zero, suc-mul, div-le-self, mul-le-mul-left, mul-le-mul-right}
 use lib.Dec.{eqb, leb}
 use lib.IntN.{ℤ}
 use lib.ListN.{length, getD}
 use borrow.Table.Steps.{cases}
-use borrow.Author.Tests.{eqb-true, not-false}
+use borrow.Author.Tests.{eqb-true, ne-eqb, not-false}
 use Rattle.metering.specs.Average.{average, annual}
 use Rattle.metering.specs.Range.{dayTypeValid}
 use Rattle.ledger.specs.Method.{Category, Flag, A, D, E, N, letterOf, Cell}
-use Rattle.ledger.specs.Opening.{Opening, categories, dates}
+use Rattle.ledger.specs.Opening.{Opening, windowPlaces, categories, dates}
 use Rattle.ledger.specs.Table.{tabulate}
-use Rattle.ledger.specs.Checks.{Registration, RegistrationCall, ReceptionCall, Verdict, firstFailed, orElse, sizesValid, openingCheck, bodyCheck, inForceCheck, receptionCheck, bandCheck, NetCall}
+use Rattle.ledger.specs.Checks.{Registration, RegistrationCall, ReceptionCall, Verdict, firstFailed, windowNumber, orElse, sizesValid, openingCheck, bodyCheck, inForceCheck, receptionCheck, bandCheck, NetCall}
 use Rattle.ledger.specs.Band.{BandCall, bandOn, bandDates}
 use Rattle.ledger.specs.Fill.{FillCall}
 use Rattle.ledger.specs.Ledger.{Answer, answer, accepted, moved, totalsAre, cellIs, netIs, bandIs, filledAre, coverageIs}
@@ -50,6 +51,21 @@ unfolding firstFailed
 failed-place number zero i m h = zero-le
 failed-place number (suc n) i m h = cases (eqb (number i) 0) (λ q. rw q (failed-place number n (suc i) m (omega arith))) (λ q. rw q (omega arith))
 
+-- where the thing after k others fails, the first that fails is not after it
+failed-by : (number : ℕ → ℕ) (n i k : ℕ) → number (i + k) ≢ 0 → firstFailed number n i .place ≤ i + k + 1
+unfolding firstFailed
+failed-by number zero i k bad = zero-le
+failed-by number (suc n) i zero bad = rw (ne-eqb (number i) 0 (rw (add-zero i) at bad)) (omega arith)
+failed-by number (suc n) i (suc k) bad =
+    cases (eqb (number i) 0)
+    (λ q. let next : i + suc k ≡ suc i + k = omega arith in rw q (let later = failed-by number n (suc i) k (rw next at bad) in omega arith))
+    (λ q. rw q (omega arith))
+
+-- a ninth window is bad
+ninth : (duration : ℕ) (minutes : List ℕ) → windowNumber duration minutes 8 ≢ 0
+unfolding windowNumber
+ninth duration minutes e = let z : _≡_ {A = ℕ} 19 0 = e in omega arith
+
 else-place : (a b : Verdict) (m : ℕ) → a .place ≤ m → b .place ≤ m → orElse a b .place ≤ m
 unfolding orElse
 else-place a b m f g = cases (eqb (a .number) 0) (λ q. rw q g) (λ q. rw q f)
@@ -62,7 +78,8 @@ opening-place a short =
     let valid = sizes-valid a q in
     let few-categories = valid .categories-are .1 in
     let few-dates = valid .dates-are .1 in
-    rw q (else-place _ _ 800 (failed-place _ (categories a) 0 800 (omega arith)) (else-place _ _ 800 (failed-place _ (dates a) 0 800 (omega arith)) zero-le)))
+    let by-nine = failed-by (windowNumber (a .duration) (a .windowMinutes)) (windowPlaces a) 0 8 (ninth (a .duration) (a .windowMinutes)) in
+    rw q (else-place _ _ 800 (omega arith) (else-place _ _ 800 (failed-place _ (categories a) 0 800 (omega arith)) (else-place _ _ 800 (failed-place _ (dates a) 0 800 (omega arith)) zero-le))))
     (λ q. rw q zero-le)
 
 pub opening-fits : (S M R C K : List ℕ) (a : Opening) → FieldsFit (answer (openingVerdict S M R C K a) accepted)

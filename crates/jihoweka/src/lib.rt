@@ -42,12 +42,13 @@ pub extern "C" fn jihoweka_open(
     days: &mut [u64],
     duration: u64,
     meter_count: u64,
+    windows: &[u64],
     category_records: &[u8],
     day_types: &[u8],
     fields: &mut [i64],
 ) -> u64
-    ensures answers { λ r. ⌜ Returned (now (fields .entry)) (answer (openingVerdict (now (settings .entry)) (now (meters .entry)) (now (readings .entry)) (now (cells .entry)) (now (days .entry)) (record { duration = duration; meters = «meter_count»; categoryBytes = (now («category_records» .entry)); dayTypes = (now («day_types» .entry)) })) accepted) r (now (fields .exit)) ⌝ }
-    ensures parts_are { λ r. ⌜ OpeningLeaves (now (fields .entry)) (now (settings .entry)) (now (meters .entry)) (now (readings .entry)) (now (cells .entry)) (now (days .entry)) (record { duration = duration; meters = «meter_count»; categoryBytes = (now («category_records» .entry)); dayTypes = (now («day_types» .entry)) }) (now (settings .exit)) (now (meters .exit)) (now (readings .exit)) (now (cells .exit)) (now (days .exit)) ⌝ }
+    ensures answers { λ r. ⌜ Returned (now (fields .entry)) (answer (openingVerdict (now (settings .entry)) (now (meters .entry)) (now (readings .entry)) (now (cells .entry)) (now (days .entry)) (record { duration = duration; meters = «meter_count»; windowMinutes = (now (windows .entry)); categoryBytes = (now («category_records» .entry)); dayTypes = (now («day_types» .entry)) })) accepted) r (now (fields .exit)) ⌝ }
+    ensures parts_are { λ r. ⌜ OpeningLeaves (now (fields .entry)) (now (settings .entry)) (now (meters .entry)) (now (readings .entry)) (now (cells .entry)) (now (days .entry)) (record { duration = duration; meters = «meter_count»; windowMinutes = (now (windows .entry)); categoryBytes = (now («category_records» .entry)); dayTypes = (now («day_types» .entry)) }) (now (settings .exit)) (now (meters .exit)) (now (readings .exit)) (now (cells .exit)) (now (days .exit)) ⌝ }
 {
     if fields.len() < FIELDS {
         return SHORT;
@@ -62,6 +63,7 @@ pub extern "C" fn jihoweka_open(
             duration,
             meters: meter_count,
         },
+        windows,
         category_records,
         day_types,
     );

@@ -27,6 +27,7 @@ use Rattle.ledger.proofs.Parts.{cut-agrees, back-agrees, meters-rest, r
 use Rattle.ledger.proofs.Runs.{after-sound, run-agrees, run-length, run-shows, previewed-long, run-moved, run-days, run-days-length}
 use Rattle.ledger.proofs.Register.{registration-check, registration-accepted, registration-agrees}
 use Rattle.ledger.proofs.Receive.{reception-check, reception-accepted, reception-agrees}
+use Rattle.ledger.proofs.Windows.{windows-few}
 use Rattle.ledger.proofs.Open as open-step
 use Rattle.ledger.proofs.Answers.{run-is, cell-is, totals-are, may-net-is, net-is, band-is, shape-is, may-fill-is, fill-is, run-day-is, coverage-is, published-row}
 use Rattle.ledger.proofs.Drafts.{draft-short, draft-taken, cells-of}
@@ -583,7 +584,7 @@ opened-agrees p a e =
     let ok = open-step.opening-accepted (p .settings) (p .meters) (p .readings) (p .cells) (p .days) a e in
     record {
       sound = record { valid = ok .valid; meters = tt; few = omega arith; pictures-are = λ d q z. absurd (let y : _≡_ {A = ℕ} 0 1 = cc in omega arith) };
-      settings = open-step.settings-agree a (p .settings) (ok .valid .whole) (ok .settings-long);
+      settings = open-step.settings-agree a (p .settings) (ok .valid .whole) (windows-few (a .duration) (a .windowMinutes) (ok .windows-good)) (ok .settings-long);
       meters = open-step.meters-agree a (p .meters) (ok .meters-long);
       readings = open-step.readings-agree a (p .readings) (ok .readings-long);
       cells = open-step.cells-agree a (p .cells) (ok .cells-long);

@@ -15,7 +15,7 @@ use Rattle.ledger.specs.Net.{activeImport, activeExport, onSide, sideOf,
 use Rattle.ledger.specs.Band.{BandCall, inBand, bandDates, bandOn}
 use Rattle.ledger.specs.Fill.{ShapeOf, ofCategory, ofOptedOut, isOptedOutShape, shapeCategory, FillCall, weightBy, mayFill}
 use Rattle.ledger.specs.Checks.{NetCall, mayNet}
-use Rattle.ledger.specs.Ledger.{categories, dates, periods, category, dayType, Ledger, cellBy, cellAt, isPicture, isRun, totalsAt, sideAt, netAt, bandAt, shapeAt, weightAt, fillAt, coverageAt}
+use Rattle.ledger.specs.Ledger.{window, categories, dates, periods, category, dayType, Ledger, cellBy, cellAt, isPicture, isRun, totalsAt, sideAt, netAt, bandAt, shapeAt, weightAt, fillAt, coverageAt}
 use Rattle.ledger.specs.Store.{datesOf, periodsOf, rowLength, categoryOf, dayTypeOf, cellOfEntry, cellIndex, isRunAt, totRow, offRow, dayIndex, dayEntryOf, dayEntriesOf, isRunDay}
 use Rattle.ledger.specs.Calls.{rowAt, cellFor, datesSum, entriesAt, totalsFor, sideFor, weekFor, netOfSides, netFor, bandFor, shapeFor, weightFor, fillFor, coverageFor, stretch}
 use Rattle.ledger.specs.Engine.{cellsOf, Every}
@@ -148,7 +148,7 @@ module _ (l : Ledger) (s days : List ℕ) (agree : SettingsAgree (l .opening) s)
       let tots : (n : ℕ) → _ = λ n. row-sum totRow n d c (λ y. dayBy (l .opening) (l .pictures) c y .tot) hd (λ y m. daysAgree .are c y hc m .2) in
       let offs : (n : ℕ) → _ = λ n. row-sum offRow n d c (λ y. dayBy (l .opening) (l .pictures) c y .off) hd (λ y m. daysAgree .are c y hc m .3) in
       rw (agree .records c hc, entries-are d c hd hc, tots 7, offs 7, tots 365)
-      (totals-kept (l .opening .duration) (periods (l .opening)) (category (l .opening) c .window) (valid-periods (l .opening) (sound .valid) .1) (λ x. isPicture (l .pictures x))
+      (totals-kept (l .opening .duration) (periods (l .opening)) (category (l .opening) c .window) (window (l .opening) (category (l .opening) c .window)) (valid-periods (l .opening) (sound .valid) .1) (λ x. isPicture (l .pictures x))
       (λ x j. cellBy (l .opening) (l .pictures) x c j) (dayBy (l .opening) (l .pictures) c) d
       (λ y m. unfold dayBy in refl)
       (λ y k m n. value-small (l .opening) (l .pictures) (sound .valid) (sound .pictures-are) y c k (omega arith) n)

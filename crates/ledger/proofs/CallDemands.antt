@@ -6,23 +6,24 @@ use mathlib.Core.Bool.{Bool, true, false, not, _&&_, _||_, cond, and-eq-true-iff
 use mathlib.Core.List.{List, [], _∷_, _++_}
 use mathlib.Core.Option.{Option, none, some, Option·none-ne-some, Option·some-ne-none, Option·some-injective}
 use native.Mathlib.Omega.{arith}
-use native.Mathlib.Nat.{add-zero, zero-add, mul-le-mul-right}
+use native.Mathlib.Nat.{add-zero, zero-add, mul-mod-left, mul-le-mul-right}
 use lib.Dec.{eqb, leb, ltb}
 use lib.ListN.{length, getD, drop}
 use lib.Seq.{getD-take, getD-drop}
 use borrow.Table.Steps.{cases}
 use borrow.Author.Tests.{eq-eqb, ne-eqb, eqb-true, eqb-false, leb-true, leb-false, le-leb, lt-leb, ltb-true, ltb-false, lt-ltb, le-ltb, not-false}
 use Rattle.metering.specs.Range.{between, metersInRange, categoriesInRange, datesInRange, dayTypeValid, smartValid, advancedValid, categoryValid}
-use Rattle.metering.specs.Calendar.{durationKnown, periodsPerDay, periodEnding}
-use Rattle.metering.specs.Laws.{between-true, duration-is, duration-pos, periodsPerDay-times, periodEnding-at, periodEnding-is, periodEnding-le}
-use Rattle.ledger.specs.Method.{Category, categoryAt, isSmart, sameFamily, ReadingSet, Picture}
-use Rattle.ledger.specs.Checks.{verdict, firstFailed, anyBelow, recordAt, sameKey, categoryNumber, dayTypeNumber, orElse, sizesValid, openingCheck, callNumber, Registration, RegistrationCall, starts, inForce, appointed, foundIn, notAfterLast, fieldsNumber, knownNumber, meterNumber, registrationCheck, ReceptionCall, endMinute, quality, wattHoursAt, isSenderOf, contentNumber, recordNumberIf, recordNumber, headerNumber, bodyCheck, inForceCheck, receptionCheck, runCheck, readCheck, totalsInRange, cellInRange, bandCheck, listsShort}
-use Rattle.ledger.specs.Ledger.{Opening, categories, dates, periods, category, dayType, Meter, Ledger, accepted, answer, Lengths, settingsShort, metersShort, cellsShort, daysShort, anyShort, meterWith, registrationsOf, isHeld, heldFrom, ledgerRegistrationCheck, ledgerReceptionCheck, isPicture, isRun, ledgerRunCheck, ledgerTotalsCheck, ledgerCoverageCheck, ledgerCellCheck, ledgerBandCheck, ledgerAnswer}
-use Rattle.ledger.specs.Demands.{dateOf, minuteOf, GoodRecord, MayReceive, ReceptionExact, Row, row, rowOf, eachBelow, AllHold, FirstFails, MetersLong, CellsLong, DaysLong, AllLong, GoodSizes, ValidCategory, SameKey, GoodCategory, GoodDayType, openingRows, OpeningExact, FirstBad, OpeningPlaces, KeysDiffer, StartsOn, GoodFields, registrationRows, RegistrationExact, recordRows, underRows, bodyRows, headerRows, ReceptionAnswer, ReceptionPlaces, HasPicture, RunExact, TotalsExact, CoverageExact, CellExact, BandAnswer, SameFamily, FamilyExact}
+use Rattle.metering.specs.Calendar.{durationKnown, periodsPerDay, periodEnding, windowValid}
+use Rattle.metering.specs.Laws.{between-true, duration-is, duration-pos, window-valid-is, whole-periods, periodsPerDay-times, periodEnding-at, periodEnding-is, periodEnding-le}
+use Rattle.ledger.specs.Method.{Category, categoryAt, windowAt, isSmart, sameFamily, ReadingSet, Picture}
+use Rattle.ledger.specs.Checks.{verdict, firstFailed, anyBelow, recordAt, sameKey, windowNumber, categoryNumber, dayTypeNumber, orElse, sizesValid, openingCheck, callNumber, Registration, RegistrationCall, starts, inForce, appointed, foundIn, notAfterLast, fieldsNumber, knownNumber, meterNumber, registrationCheck, ReceptionCall, endMinute, quality, wattHoursAt, isSenderOf, contentNumber, recordNumberIf, recordNumber, headerNumber, bodyCheck, inForceCheck, receptionCheck, runCheck, readCheck, totalsInRange, cellInRange, bandCheck, listsShort}
+use Rattle.ledger.specs.Ledger.{Opening, windows, windowPlaces, window, categories, dates, periods, category, dayType, Meter, Ledger, accepted, answer, Lengths, settingsShort, metersShort, cellsShort, daysShort, anyShort, meterWith, registrationsOf, isHeld, heldFrom, ledgerRegistrationCheck, ledgerReceptionCheck, isPicture, isRun, ledgerRunCheck, ledgerTotalsCheck, ledgerCoverageCheck, ledgerCellCheck, ledgerBandCheck, ledgerAnswer}
+use Rattle.ledger.specs.Demands.{dateOf, minuteOf, GoodRecord, MayReceive, ReceptionExact, Row, row, rowOf, eachBelow, AllHold, FirstFails, MetersLong, CellsLong, DaysLong, AllLong, GoodSizes, GoodWindow, ValidCategory, SameKey, GoodCategory, GoodDayType, openingRows, OpeningExact, FirstBad, OpeningPlaces, WindowsWhole, KeysDiffer, StartsOn, GoodFields, registrationRows, RegistrationExact, recordRows, underRows, bodyRows, headerRows, ReceptionAnswer, ReceptionPlaces, HasPicture, RunExact, TotalsExact, CoverageExact, CellExact, BandAnswer, SameFamily, FamilyExact}
 use Rattle.ledger.proofs.Choices.{neither, fields-hold}
 use Rattle.ledger.proofs.Lists.{below-suc}
 use Rattle.ledger.proofs.RegistrationDemands.{starts-on, starts-is, starts-there, in-force-exact, appointed-exact}
-use Rattle.ledger.proofs.FirstFailed.{Finds, Decides, AtPlace, all-append, first-left, first-right, all-left, of-each, each-all, first-append, first-each, each-first, at-place, only, first-bad, finds-none, finds-skip, finds-row, decides-row, finds-both, decides-else, decides-each, passed-all, goes-by}
+use Rattle.ledger.proofs.Windows.{places-few}
+use Rattle.ledger.proofs.FirstFailed.{Finds, Decides, AtPlace, all-append, first-left, first-right, all-left, all-right, of-each, each-all, first-append, first-each, each-first, at-place, only, first-bad, finds-none, finds-skip, finds-row, decides-row, finds-both, decides-else, decides-each, passed-all, goes-by}
 
 -- ---- tests
 
@@ -91,6 +92,10 @@ module _ (o : Opening) (n : Lengths) where
 
 -- ---- opening
 
+exchanged : (t : Bool) (n : ℕ) → _≡_ {A = ℕ} (cond t 0 n) (cond (not t) n 0)
+exchanged true n = refl
+exchanged false n = refl
+
 sizes-iff : (o : Opening) → (sizesValid o ≡ true) ↔ GoodSizes o
 unfolding sizesValid metersInRange categoriesInRange datesInRange
 sizes-iff o = (
@@ -121,12 +126,44 @@ sizes-iff o = (
     known : (o .duration ≡ 15) ⊎ (o .duration ≡ 30) → durationKnown (o .duration) ≡ true
     known h = unfold durationKnown in ⊎-elim (λ e. rw e) (λ e. rw e) h
 
+-- 19
+window-iff : (o : Opening) (i : ℕ) →
+    ((ltb i 8 && ltb (2 * i + 1) (length (o .windowMinutes)) && windowValid (o .duration) (getD (o .windowMinutes) (2 * i) 0) (getD (o .windowMinutes) (2 * i + 1) 0)) ≡ true)
+    ↔ GoodWindow o i
+unfolding windowAt
+window-iff o i = (
+  λ e. let p = and-eq-true-iff _ _ .0 e in
+      let q = and-eq-true-iff _ _ .0 (p .0) in
+      let v = window-valid-is (o .duration) _ _ .0 (p .1) in
+      let there = ltb-true (2 * i + 1) (length (o .windowMinutes)) (q .1) in
+      record {
+        one-of-eight = ltb-true _ _ (q .0);
+        both-minutes = omega arith;
+        before = window o (suc i) .start / o .duration;
+        until = window o (suc i) .end / o .duration;
+        starts = sym (whole-periods (o .duration) _ (v .0));
+        ends = sym (whole-periods (o .duration) _ (v .1));
+        order = v .2;
+        in-the-day = v .3;
+      },
+  λ g. let there = g .both-minutes in
+      rw (
+        lt-ltb i 8 (g .one-of-eight),
+        lt-ltb (2 * i + 1) (length (o .windowMinutes)) (omega arith),
+        window-valid-is (o .duration) _ _ .1 (ap (λ x. x % o .duration) (g .starts) ∙ mul-mod-left (g .before) (o .duration), ap (λ x. x % o .duration) (g .ends) ∙ mul-mod-left (g .until) (o .duration), g .order, g .in-the-day),
+      ),
+)
+
+window-finds : (o : Opening) (i : ℕ) → Finds (windowNumber (o .duration) (o .windowMinutes) i) (suc i) (rowOf i 19 (GoodWindow o i) ∷ [])
+unfolding windowNumber
+window-finds o i = rw (exchanged _ 19) (finds-row refl (not-iff _ (window-iff o i)) finds-none)
+
 -- a record alone
-valid-iff : (r : List ℕ) → (categoryValid r ≡ true) ↔ ValidCategory (categoryAt r 0)
+valid-iff : (o : Opening) (r : List ℕ) → (categoryValid (windows o) r ≡ true) ↔ ValidCategory o (categoryAt r 0)
 unfolding categoryValid categoryAt smartValid advancedValid
-valid-iff r = (
+valid-iff o r = (
   λ e.
-      cases (smartValid r)
+      cases (smartValid (windows o) r)
       (λ t.
       let p = and-eq-true-iff _ _ .0 t in
       let q = and-eq-true-iff _ _ .0 (p .0) in
@@ -135,8 +172,9 @@ valid-iff r = (
       let w = and-eq-true-iff _ _ .0 (v .0) in
       let group = between-true 1 14 (getD r 1 0) .0 (w .1) in
       let domestic = between-true 1 2 (getD r 2 0) .0 (v .1) in
+      let window = between-true 0 (windows o) (getD r 5 0) .0 (p .1) .1 in
       record {
-        segment = inl (eqb-true _ _ (w .0), group .0, group .1, domestic .0, domestic .1, between-true 0 2 (getD r 5 0) .0 (p .1) .1);
+        segment = inl (eqb-true _ _ (w .0), group .0, group .1, domestic .0, domestic .1, omega arith);
         quantity = between-true 1 2 (getD r 3 0) .0 (u .1);
         connection = between-true 1 4 (getD r 4 0) .0 (q .1);
       })
@@ -161,7 +199,7 @@ valid-iff r = (
         h .0,
         between-true 1 14 (getD r 1 0) .1 (h .1, h .2),
         between-true 1 2 (getD r 2 0) .1 (h .3, h .4),
-        between-true 0 2 (getD r 5 0) .1 (omega arith, h .5),
+        between-true 0 (windows o) (getD r 5 0) .1 (omega arith, let few = h .5 in omega arith),
       ))
       (λ h. rw (h .0, h .1, h .2, h .3) (unfold between in refl))
       (g .segment)),
@@ -206,15 +244,15 @@ key-iff bytes k i = (
 
 -- 4
 category-iff : (o : Opening) (i : ℕ) →
-    ((not (categoryValid (recordAt (o .categoryBytes) i)) || anyBelow i (λ k. sameKey (o .categoryBytes) k i)) ≡ false)
+    ((not (categoryValid (windows o) (recordAt (o .categoryBytes) i)) || anyBelow i (λ k. sameKey (o .categoryBytes) k i)) ≡ false)
     ↔ GoodCategory o i
 category-iff o i = (
   λ e. let p = neither _ _ e in (
-    rw (cut-out bytes i) at (valid-iff (recordAt bytes i) .0 (not-false _ (p .0))),
+    rw (cut-out bytes i) at (valid-iff o (recordAt bytes i) .0 (not-false _ (p .0))),
     λ k h same. true≢false (sym (key-iff bytes k i .1 same) ∙ any-false i (λ x. sameKey bytes x i) (p .1) k h),
   ),
   λ h. rw (
-    valid-iff (recordAt bytes i) .1 (rw (cut-out bytes i) (h .0)),
+    valid-iff o (recordAt bytes i) .1 (rw (cut-out bytes i) (h .0)),
     none-below i (λ x. sameKey bytes x i) (λ k l. cases (sameKey bytes k i) (λ t. absurd (h .1 k l (key-iff bytes k i .0 t))) (λ t. t)),
   ),
 )
@@ -222,40 +260,43 @@ category-iff o i = (
     bytes : List ℕ
     bytes = o .categoryBytes
 
-category-finds : (o : Opening) (i : ℕ) → Finds (categoryNumber (o .categoryBytes) i) (suc i) (rowOf i 4 (GoodCategory o i) ∷ [])
+category-finds : (o : Opening) (i : ℕ) → Finds (categoryNumber (windows o) (o .categoryBytes) i) (suc i) (rowOf i 4 (GoodCategory o i) ∷ [])
 unfolding categoryNumber
 category-finds o i = finds-row refl (category-iff o i) finds-none
 
 day-type-finds : (o : Opening) (i : ℕ) → Finds (dayTypeNumber (o .dayTypes) i) (suc i) (rowOf i 5 (GoodDayType o i) ∷ [])
 unfolding dayTypeNumber dayTypeValid
-day-type-finds o i = rw (exchanged (between 1 16 (dayType o i))) (finds-row refl (not-iff _ (between-true 1 16 (dayType o i))) finds-none)
-  where
-    exchanged : (t : Bool) → _≡_ {A = ℕ} (cond t 0 5) (cond (not t) 5 0)
-    exchanged true = refl
-    exchanged false = refl
+day-type-finds o i = rw (exchanged (between 1 16 (dayType o i)) 5) (finds-row refl (not-iff _ (between-true 1 16 (dayType o i))) finds-none)
 
 -- with any test `short` for 1
 opening-decides : (o : Opening) (short : Bool) (Long : Type 0) → (short ≡ false) ↔ Long →
     Decides (openingCheck o short)
     (row 3 (GoodSizes o)
-    ∷ (eachBelow (categories o) (λ i. rowOf i 4 (GoodCategory o i) ∷ []) ++ (eachBelow (dates o) (λ i. rowOf i 5 (GoodDayType o i) ∷ []) ++ (row 1 Long ∷ []))))
+    ∷ (eachBelow (windowPlaces o) (λ i. rowOf i 19 (GoodWindow o i) ∷ [])
+    ++ (eachBelow (categories o) (λ i. rowOf i 4 (GoodCategory o i) ∷ []) ++ (eachBelow (dates o) (λ i. rowOf i 5 (GoodDayType o i) ∷ []) ++ (row 1 Long ∷ [])))))
 unfolding openingCheck
 opening-decides o short Long is =
-    let records = firstFailed (categoryNumber (o .categoryBytes)) (categories o) 0 in
+    let windowed = firstFailed (windowNumber (o .duration) (o .windowMinutes)) (windowPlaces o) 0 in
+    let records = firstFailed (categoryNumber (windows o) (o .categoryBytes)) (categories o) 0 in
     let dayTypes = firstFailed (dayTypeNumber (o .dayTypes)) (dates o) 0 in
     let last = verdict (cond short 1 0) in
-    decides-row (orElse records (orElse dayTypes last)) refl (not-iff _ (sizes-iff o))
+    decides-row (orElse windowed (orElse records (orElse dayTypes last))) refl (not-iff _ (sizes-iff o))
+    (decides-else windowed (orElse records (orElse dayTypes last))
+    (decides-each (windowNumber (o .duration) (o .windowMinutes)) (windowPlaces o) 0 (λ i. rowOf i 19 (GoodWindow o i) ∷ []) (λ k. rw (zero-add k) (window-finds o k)))
     (decides-else records (orElse dayTypes last)
-    (decides-each (categoryNumber (o .categoryBytes)) (categories o) 0 (λ i. rowOf i 4 (GoodCategory o i) ∷ []) (λ k. rw (zero-add k) (category-finds o k)))
+    (decides-each (categoryNumber (windows o) (o .categoryBytes)) (categories o) 0 (λ i. rowOf i 4 (GoodCategory o i) ∷ []) (λ k. rw (zero-add k) (category-finds o k)))
     (decides-else dayTypes last
     (decides-each (dayTypeNumber (o .dayTypes)) (dates o) 0 (λ i. rowOf i 5 (GoodDayType o i) ∷ []) (λ k. rw (zero-add k) (day-type-finds o k)))
-    (finds-row refl is finds-none)))
+    (finds-row refl is finds-none))))
 
 pub opening-exact : OpeningExact
 opening-exact o n = goes-by (openingCheck o (anyShort o n)) accepted refl (opening-decides o (anyShort o n) (AllLong o n) (any-iff o n))
 
--- the places of 4 and 5
+-- the places of 19, 4 and 5
 module _ (o : Opening) (n : Lengths) (i : ℕ) where
+  abbrev windowed : List Row
+  windowed = eachBelow (windowPlaces o) (λ k. rowOf k 19 (GoodWindow o k) ∷ [])
+
   abbrev records : List Row
   records = eachBelow (categories o) (λ k. rowOf k 4 (GoodCategory o k) ∷ [])
 
@@ -265,15 +306,19 @@ module _ (o : Opening) (n : Lengths) (i : ℕ) where
   abbrev last : List Row
   last = row 1 (AllLong o n) ∷ []
 
+  first-window : (m : ℕ) → FirstFails windowed m (suc i) ↔ ((m ≡ 19) × FirstBad (GoodWindow o) (windowPlaces o) i)
+  first-window m = first-bad (windowPlaces o) 19 (GoodWindow o) m i
+
   first-record : (m : ℕ) → FirstFails records m (suc i) ↔ ((m ≡ 4) × FirstBad (GoodCategory o) (categories o) i)
   first-record m = first-bad (categories o) 4 (GoodCategory o) m i
 
   first-day-type : (m : ℕ) → FirstFails dayTypes m (suc i) ↔ ((m ≡ 5) × FirstBad (GoodDayType o) (dates o) i)
   first-day-type m = first-bad (dates o) 5 (GoodDayType o) m i
 
-  -- a refusal with a place is 4 or 5
+  -- a refusal with a place is 19, 4 or 5
   placed : (m : ℕ) → FirstFails (openingRows o n) m (suc i) →
-      GoodSizes o × (FirstFails records m (suc i) ⊎ (AllHold records × FirstFails dayTypes m (suc i)))
+      GoodSizes o
+      × (FirstFails windowed m (suc i) ⊎ (AllHold windowed × (FirstFails records m (suc i) ⊎ (AllHold records × FirstFails dayTypes m (suc i)))))
   placed m f =
       ⊎-elim
       (λ three. absurd (let z = three .2 in omega arith))
@@ -281,35 +326,103 @@ module _ (o : Opening) (n : Lengths) (i : ℕ) where
         later .0,
         ⊎-elim
             (λ a. inl a)
-            (λ b. ⊎-elim (λ a. inr (b .0, a)) (λ one. absurd (let z = only (row 1 (AllLong o n)) m (suc i) (one .1) .2 in omega arith)) (first-append dayTypes last m (suc i) (b .1)))
-            (first-append records (dayTypes ++ last) m (suc i) (later .1)),
+            (λ b. inr (
+              b .0,
+              ⊎-elim
+                  (λ a. inl a)
+                  (λ c. ⊎-elim (λ a. inr (c .0, a)) (λ one. absurd (let z = only (row 1 (AllLong o n)) m (suc i) (one .1) .2 in omega arith)) (first-append dayTypes last m (suc i) (c .1)))
+                  (first-append records (dayTypes ++ last) m (suc i) (b .1)),
+            ))
+            (first-append windowed (records ++ (dayTypes ++ last)) m (suc i) (later .1)),
       ))
       f
 
-  four : FirstFails (openingRows o n) 4 (suc i) ↔ (GoodSizes o × FirstBad (GoodCategory o) (categories o) i)
-  four = (
-    λ f. let p = placed 4 f in
-        (p .0, ⊎-elim (λ a. first-record 4 .0 a .1) (λ b. absurd (let z = first-day-type 4 .0 (b .1) .0 in omega arith)) (p .1)),
-    λ h. inr (h .0, first-left records _ 4 (suc i) (first-record 4 .1 (refl, h .1))),
+  all-windows : AllHold windowed → (k : ℕ) → k < windowPlaces o → GoodWindow o k
+  all-windows all k l = of-each (windowPlaces o) (λ x. rowOf x 19 (GoodWindow o x) ∷ []) all k l .0
+
+  windows-hold : ((k : ℕ) → k < windowPlaces o → GoodWindow o k) → AllHold windowed
+  windows-hold h = each-all (windowPlaces o) (λ x. rowOf x 19 (GoodWindow o x) ∷ []) (λ k l. (h k l, tt))
+
+  nineteen : FirstFails (openingRows o n) 19 (suc i) ↔ (GoodSizes o × FirstBad (GoodWindow o) (windowPlaces o) i)
+  nineteen = (
+    λ f. let p = placed 19 f in (
+      p .0,
+      ⊎-elim
+          (λ a. first-window 19 .0 a .1)
+          (λ b. ⊎-elim (λ c. absurd (let z = first-record 19 .0 c .0 in omega arith)) (λ c. absurd (let z = first-day-type 19 .0 (c .1) .0 in omega arith)) (b .1))
+          (p .1),
+    ),
+    λ h. inr (h .0, first-left windowed _ 19 (suc i) (first-window 19 .1 (refl, h .1))),
   )
 
-  five : FirstFails (openingRows o n) 5 (suc i) ↔ (GoodSizes o × ((k : ℕ) → k < categories o → GoodCategory o k) × FirstBad (GoodDayType o) (dates o) i)
+  four : FirstFails (openingRows o n) 4 (suc i) ↔ (GoodSizes o × ((k : ℕ) → k < windowPlaces o → GoodWindow o k) × FirstBad (GoodCategory o) (categories o) i)
+  four = (
+    λ f. let p = placed 4 f in
+        ⊎-elim
+        (λ a. absurd (let z = first-window 4 .0 a .0 in omega arith))
+        (λ b. (
+          p .0,
+          all-windows (b .0),
+          ⊎-elim (λ c. first-record 4 .0 c .1) (λ c. absurd (let z = first-day-type 4 .0 (c .1) .0 in omega arith)) (b .1),
+        ))
+        (p .1),
+    λ h. inr (h .0, first-right windowed _ 4 (suc i) (windows-hold (h .1)) (first-left records _ 4 (suc i) (first-record 4 .1 (refl, h .2)))),
+  )
+
+  five : FirstFails (openingRows o n) 5 (suc i)
+      ↔ (GoodSizes o × ((k : ℕ) → k < windowPlaces o → GoodWindow o k) × ((k : ℕ) → k < categories o → GoodCategory o k) × FirstBad (GoodDayType o) (dates o) i)
   five = (
     λ f. let p = placed 5 f in
         ⊎-elim
-        (λ a. absurd (let z = first-record 5 .0 a .0 in omega arith))
-        (λ b. (p .0, λ k l. of-each (categories o) (λ x. rowOf x 4 (GoodCategory o x) ∷ []) (b .0) k l .0, first-day-type 5 .0 (b .1) .1))
+        (λ a. absurd (let z = first-window 5 .0 a .0 in omega arith))
+        (λ b.
+        ⊎-elim
+        (λ c. absurd (let z = first-record 5 .0 c .0 in omega arith))
+        (λ c. (
+          p .0,
+          all-windows (b .0),
+          λ k l. of-each (categories o) (λ x. rowOf x 4 (GoodCategory o x) ∷ []) (c .0) k l .0,
+          first-day-type 5 .0 (c .1) .1,
+        ))
+        (b .1))
         (p .1),
     λ h. inr (
       h .0,
-      first-right records _ 5 (suc i) (each-all (categories o) (λ x. rowOf x 4 (GoodCategory o x) ∷ []) (λ k l. (h .1 k l, tt)))
-          (first-left dayTypes _ 5 (suc i) (first-day-type 5 .1 (refl, h .2))),
+      first-right windowed _ 5 (suc i) (windows-hold (h .1))
+          (first-right records _ 5 (suc i) (each-all (categories o) (λ x. rowOf x 4 (GoodCategory o x) ∷ []) (λ k l. (h .2 k l, tt)))
+          (first-left dayTypes _ 5 (suc i) (first-day-type 5 .1 (refl, h .3)))),
     ),
   )
 
 pub opening-places : OpeningPlaces
 opening-places o n i =
-    let goes = opening-exact o n .1 in (Iff·trans (goes 4 (suc i)) (four o n i), Iff·trans (goes 5 (suc i)) (five o n i))
+    let goes = opening-exact o n .1 in (
+      Iff·trans (goes 19 (suc i)) (nineteen o n i),
+      Iff·trans (goes 4 (suc i)) (four o n i),
+      Iff·trans (goes 5 (suc i)) (five o n i),
+    )
+
+-- an accepted opening passed them all
+module _ (o : Opening) (short : Bool) (ok : openingCheck o short .number ≡ 0) where
+  passed : AllHold
+      (eachBelow (windowPlaces o) (λ i. rowOf i 19 (GoodWindow o i) ∷ [])
+      ++ (eachBelow (categories o) (λ i. rowOf i 4 (GoodCategory o i) ∷ []) ++ (eachBelow (dates o) (λ i. rowOf i 5 (GoodDayType o i) ∷ []) ++ (row 1 (short ≡ false) ∷ []))))
+  passed = passed-all (opening-decides o short (short ≡ false) Iff·rfl) ok .1
+
+  every-window : (i : ℕ) → i < windowPlaces o → GoodWindow o i
+  every-window i h = of-each (windowPlaces o) (λ x. rowOf x 19 (GoodWindow o x) ∷ []) (all-left (eachBelow (windowPlaces o) _) _ passed) i h .0
+
+  every-record : (i : ℕ) → i < categories o → GoodCategory o i
+  every-record i h =
+      of-each (categories o) (λ x. rowOf x 4 (GoodCategory o x) ∷ [])
+      (all-left (eachBelow (categories o) _) _ (all-right (eachBelow (windowPlaces o) _) _ passed)) i h .0
+
+pub windows-are-whole : WindowsWhole
+windows-are-whole o short ok =
+    let every = every-window o short ok in
+    let few = places-few (length (o .windowMinutes)) (λ i h. let w = every i h .both-minutes in (every i h .one-of-eight, omega arith)) in
+    let low = few .0 in
+    (few .1, omega arith, λ i h. every i (omega arith))
 
 pub keys-differ : KeysDiffer
 keys-differ o short ok i k hi hk other same =
@@ -317,11 +430,8 @@ keys-differ o short ok i k hi hk other same =
     (λ t. earlier i hi k (ltb-true k i t) (record { segment = sym (same .segment); group = sym (same .group); domestic = sym (same .domestic); quantity = sym (same .quantity); connection = sym (same .connection) }))
     (λ t. let after = ltb-false k i t in earlier k hk i (omega arith) same)
   where
-    all : AllHold (eachBelow (categories o) (λ x. rowOf x 4 (GoodCategory o x) ∷ []))
-    all = all-left (eachBelow (categories o) _) _ (passed-all (opening-decides o short (short ≡ false) Iff·rfl) ok .1)
-
     earlier : (x : ℕ) → x < categories o → (y : ℕ) → y < x → SameKey (category o y) (category o x) → ⊥
-    earlier x h y l alike = of-each (categories o) (λ z. rowOf z 4 (GoodCategory o z) ∷ []) all x h .0 .1 y l alike
+    earlier x h y l alike = every-record o short ok x h .1 y l alike
 
 -- ---- registration
 

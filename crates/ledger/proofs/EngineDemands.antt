@@ -10,18 +10,18 @@ use native.Mathlib.Nat.{le-refl, min-eq-left}
 use lib.Dec.{eqb, leb}
 use borrow.Table.Steps.{cases}
 use borrow.Author.Tests.{leb-false, lt-leb, lt-ltb, le-ltb}
-use Rattle.metering.specs.Calendar.{durationKnown}
+use Rattle.metering.specs.Calendar.{durationKnown, windowValid}
 use Rattle.metering.specs.Laws.{between-true}
 use Rattle.metering.specs.Range.{between, metersInRange, categoriesInRange, datesInRange, dayTypeValid, smartValid, advancedValid, categoryValid}
 use Rattle.ledger.specs.Method.{freshIn, cellFrom, latest, cellOf, cellOn}
 use Rattle.ledger.specs.Fill.{FillCall}
-use Rattle.ledger.specs.Checks.{Verdict, firstFailed, anyBelow, orElse, recordAt, sameKey, categoryNumber, dayTypeNumber, sizesValid, openingCheck, runCheck, readCheck, cellInRange}
+use Rattle.ledger.specs.Checks.{Verdict, firstFailed, anyBelow, orElse, recordAt, sameKey, windowNumber, categoryNumber, dayTypeNumber, sizesValid, openingCheck, runCheck, readCheck, cellInRange}
 use Rattle.ledger.specs.Sizes.{settingsLength, metersLength, readingsLength, cellsLength, daysLength}
 use Rattle.ledger.specs.Ledger.{Opening, categories, dates, periods, category, dayType, Ledger, start, Call, register, receive, run, readTotals, readCell, readNet, searchBand, fillHole, readCoverage, preview, readRow, Answer, moved, cellIs, answer, left, Lengths, leastLengths, settingsShort, metersShort, cellsShort, anyShort, afterRegistration, afterReception, pictureOf, afterRun, movedBetween, cellBy, cellAt, dayOf, isPicture, isRun, ledgerRunCheck, ledgerCellCheck, afterPreview, ledgerAnswer, ledgerAfter}
 use Rattle.ledger.specs.Calls.{openingVerdict}
 use Rattle.ledger.specs.Engine.{Parts, openedParts, Item, answersFrom, storeAnswers, cutLengths, ledgerAnswers, lengthsOf, BodyOfBytes, BodiesOfBytes, Every, draftOf}
 use Rattle.ledger.specs.Demands.{ledgerAfterItems, ledgerBeside, LastAnswer, Accepts, EngineReceivesExactly, EngineRuns, Spares, EngineReadsMethod, shapeValue, Shared, Fills, EngineFills, EngineCovers, EngineShowsSums, EngineForetells}
-use Rattle.ledger.specs.Marked.{exampleOpening, exampleCalls, exampleAnswers, netOpening, netCalls, netAnswers, bandOpening, bandCalls, bandAnswers, fillOpening, fillCalls, fillAnswers, coverageOpening, coverageCalls, coverageAnswers, senderOpening, senderCalls, senderAnswers, remainderOpening, remainderCalls, remainderAnswers, previewOpening, previewCalls, previewAnswers, exampleDraft, ledgerRun, worked-examples, lentLeast, EngineAnswers, WorkedOnEngine}
+use Rattle.ledger.specs.Marked.{exampleOpening, exampleCalls, exampleAnswers, netOpening, netCalls, netAnswers, bandOpening, bandCalls, bandAnswers, fillOpening, fillCalls, fillAnswers, coverageOpening, coverageCalls, coverageAnswers, senderOpening, senderCalls, senderAnswers, remainderOpening, remainderCalls, remainderAnswers, previewOpening, previewCalls, previewAnswers, windowOpening, windowCalls, windowAnswers, exampleDraft, ledgerRun, worked-examples, lentLeast, EngineAnswers, WorkedOnEngine}
 use Rattle.ledger.proofs.Choices.{check-passed}
 use Rattle.ledger.proofs.FirstFailed.{answered}
 use Rattle.ledger.proofs.Verdicts.{left-none}
@@ -343,7 +343,7 @@ engine-answers a calls answers opens bodies runs p e draft =
     )
 
 pub worked-on-engine : WorkedOnEngine
-unfolding openingCheck sizesValid durationKnown metersInRange categoriesInRange datesInRange between firstFailed categoryNumber recordAt categoryValid smartValid advancedValid anyBelow sameKey dayTypeNumber dayTypeValid orElse
+unfolding openingCheck sizesValid durationKnown metersInRange categoriesInRange datesInRange between firstFailed windowNumber windowValid categoryNumber recordAt categoryValid smartValid advancedValid anyBelow sameKey dayTypeNumber dayTypeValid orElse
 worked-on-engine = (
   engine-answers exampleOpening exampleCalls exampleAnswers refl refl (worked-examples .0),
   engine-answers netOpening netCalls netAnswers refl refl (worked-examples .1),
@@ -353,4 +353,5 @@ worked-on-engine = (
   engine-answers senderOpening senderCalls senderAnswers refl refl (worked-examples .5),
   engine-answers remainderOpening remainderCalls remainderAnswers refl refl (worked-examples .6),
   engine-answers previewOpening previewCalls previewAnswers refl refl (worked-examples .7),
+  engine-answers windowOpening windowCalls windowAnswers refl refl (worked-examples .8),
 )

@@ -13,12 +13,12 @@ use borrow.Table.Steps.{cases}
 use borrow.Author.Tests.{eq-eqb, ne-eqb, eqb-true, eqb-false, leb-true, leb-false, lt-ltb, le-ltb, ltb-true, ltb-false}
 use Rattle.metering.specs.Sum.{sumBelow, sumBelow-zero, sumBelow-suc, sumBelow-le}
 use Rattle.metering.specs.Average.{annual}
-use Rattle.metering.specs.Calendar.{liesWithin, windowStart, windowEnd}
-use Rattle.metering.specs.Laws.{average-is, annual-is, duration-pos, window-0-empty}
-use Rattle.ledger.specs.Method.{Category, Picture, Fresh, absent, freshIn, Flag, A, D, E, N, flagNumber, isFresh, isBlank, blank, carried, cellFrom, Day, notRun, ran, latest, overRunDates, freshAmong, blanksAmong, totOn, offOn, peakOn, totalsOn}
+use Rattle.metering.specs.Calendar.{liesWithin}
+use Rattle.metering.specs.Laws.{average-is, annual-is, duration-pos, empty-window}
+use Rattle.ledger.specs.Method.{Category, windowAt, Picture, Fresh, absent, freshIn, Flag, A, D, E, N, flagNumber, isFresh, isBlank, blank, carried, cellFrom, Day, notRun, ran, latest, overRunDates, freshAmong, blanksAmong, totOn, offOn, peakOn, totalsOn}
 use Rattle.ledger.specs.Table.{chosenBelow}
 use Rattle.ledger.specs.Net.{sumOver}
-use Rattle.ledger.specs.Ledger.{periods, category, dayType, Ledger, dayOf, isPicture, isRun, cellBy, cellAt, totalsAt}
+use Rattle.ledger.specs.Ledger.{periods, window, category, dayType, Ledger, dayOf, isPicture, isRun, cellBy, cellAt, totalsAt}
 use Rattle.ledger.specs.Demands.{Earlier, Nearest, takenOver, CopyOf, NoShape, NearestEarlier, CarriedExact, CarriesNearest, runDatesAmong, WeekExact, YearExact, TotIsSum, OffAndPeak, flaggedOn, FlagsCounted}
 use Rattle.ledger.proofs.Lists.{sumBelow-cong, sumBelow-none, sumBelow-plus, sumBelow-one, sumBelow-ones, part-le}
 use Rattle.ledger.proofs.Columns.{latest-other-type, latest-not-run, latest-run, cell-run}
@@ -180,17 +180,17 @@ module _ (l : Ledger) (c : ℕ) where
   off-le : (d : ℕ) → totalsAt l d c .off ≤ totalsAt l d c .tot
   unfolding totalsAt totalsOn totOn offOn
   off-le d =
-      let w = category (l .opening) c .window in
+      let own = window (l .opening) (category (l .opening) c .window) in
       sumBelow-le (periods (l .opening)) _ _
-      (λ k h. part-le (liesWithin (l .opening .duration) (windowStart w) (windowEnd w) (suc k)) (cellAt l d c (suc k) .value))
+      (λ k h. part-le (liesWithin (l .opening .duration) (own .start) (own .end) (suc k)) (cellAt l d c (suc k) .value))
 
   with-window : (d : ℕ) → category (l .opening) c .window ≢ 0 → totalsAt l d c .peak + totalsAt l d c .off ≡ totalsAt l d c .tot
   unfolding totalsAt totalsOn peakOn
   with-window d w = rw (ne-eqb _ _ w) (let h = off-le d in omega arith)
 
   off-none : (d : ℕ) → 0 < l .opening .duration → category (l .opening) c .window ≡ 0 → totalsAt l d c .off ≡ 0
-  unfolding totalsAt totalsOn offOn
-  off-none d h w = sumBelow-none (periods (l .opening)) _ (λ k b. rw (w, window-0-empty (l .opening .duration) (suc k) h (omega arith)))
+  unfolding totalsAt totalsOn offOn windowAt
+  off-none d h w = sumBelow-none (periods (l .opening)) _ (λ k b. rw (w, empty-window (l .opening .duration) 0 (suc k) h (omega arith)))
 
   peak-none : (d : ℕ) → category (l .opening) c .window ≡ 0 → totalsAt l d c .peak ≡ 0
   unfolding totalsAt totalsOn peakOn

@@ -36,7 +36,7 @@ pub all-left : (xs ys : List Row) → AllHold (xs ++ ys) → AllHold xs
 all-left [] ys all = tt
 all-left (r ∷ xs) ys all = (all .0, all-left xs ys (all .1))
 
-all-right : (xs ys : List Row) → AllHold (xs ++ ys) → AllHold ys
+pub all-right : (xs ys : List Row) → AllHold (xs ++ ys) → AllHold ys
 all-right [] ys all = all
 all-right (r ∷ xs) ys all = all-right xs ys (all .1)
 

@@ -12,8 +12,8 @@ use lib.ListN.{length, getD}
 use borrow.Table.Steps.{cases}
 use borrow.Author.Tests.{eq-eqb, ne-eqb, eqb-true, eqb-false}
 use Rattle.metering.specs.Sum.{sumBelow}
-use Rattle.metering.specs.Calendar.{liesWithin, windowStart, windowEnd}
-use Rattle.ledger.specs.Method.{Fresh, absent, own, pooled, N, Cell, blank, ownCell, pooledCell, isOwnCell, carried, freshAmong, blanksAmong, oldestAmong, isFresh, isBlank}
+use Rattle.metering.specs.Calendar.{liesWithin}
+use Rattle.ledger.specs.Method.{Window, Fresh, absent, own, pooled, N, Cell, blank, ownCell, pooledCell, isOwnCell, carried, freshAmong, blanksAmong, oldestAmong, isFresh, isBlank}
 use Rattle.ledger.specs.Table.{tabulate}
 use Rattle.ledger.specs.Sizes.{daysLength}
 use Rattle.ledger.specs.Store.{categoriesOf, datesOf, periodsOf, rowLength, dayTypeOf, entryOf, NothingElse, flagNumberOf, cellOfEntry, isRunAt, DayEntries, notRunEntries, dayEntryOf, totEntry, totAmong, offAmong, dayEntriesOf, countsOf}
@@ -39,15 +39,15 @@ day-cong P f g h =
       oldest-cong P f g h,
     )
 
-pub entries-cong : (duration w P : ℕ) (f g : ℕ → Cell) → ((k : ℕ) → k < P → f k ≡ g k) → dayEntriesOf duration w P f ≡ dayEntriesOf duration w P g
+pub entries-cong : (duration : ℕ) (window : Window) (P : ℕ) (f g : ℕ → Cell) → ((k : ℕ) → k < P → f k ≡ g k) → dayEntriesOf duration window P f ≡ dayEntriesOf duration window P g
 unfolding dayEntriesOf totAmong offAmong
-entries-cong duration w P f g h =
+entries-cong duration window P f g h =
     let tots : sumBelow P (λ k. f k .value) ≡ sumBelow P (λ k. g k .value) = sumBelow-cong P _ _ (λ k l. ap (λ (a : Cell). a .value) (h k l)) in
     λ i.
     record {
       day = day-cong P f g h i;
       tot = totEntry (tots i);
-      off = sumBelow-cong P (λ k. cond (liesWithin duration (windowStart w) (windowEnd w) (suc k)) (f k .value) 0) (λ k. cond (liesWithin duration (windowStart w) (windowEnd w) (suc k)) (g k .value) 0) (λ k l. ap (λ (a : Cell). cond (liesWithin duration (windowStart w) (windowEnd w) (suc k)) (a .value) 0) (h k l)) i;
+      off = sumBelow-cong P (λ k. cond (liesWithin duration (window .start) (window .end) (suc k)) (f k .value) 0) (λ k. cond (liesWithin duration (window .start) (window .end) (suc k)) (g k .value) 0) (λ k l. ap (λ (a : Cell). cond (liesWithin duration (window .start) (window .end) (suc k)) (a .value) 0) (h k l)) i;
     }
 
 pub for-cong : (s : List ℕ) (c : ℕ) (f g : ℕ → Cell) → ((k : ℕ) → k < periodsOf s → f k ≡ g k) → entriesFor s c f ≡ entriesFor s c g

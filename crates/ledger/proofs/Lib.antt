@@ -18,6 +18,7 @@ pub mod Registrations
 pub mod Settings
 pub mod Register
 pub mod Receive
+pub mod Windows
 pub mod Open
 pub mod Chosen
 pub mod Nets
@@ -35,6 +36,7 @@ pub mod NetDemands
 pub mod BandDemands
 pub mod FillDemands
 pub mod FigureDemands
+pub mod WindowDemands
 pub mod CoverageDemands
 pub mod PreviewDemands
 pub mod SizeDemands

@@ -1,23 +1,24 @@
 -- An accepted opening gives the relation.
-use Prim.Native.Nat.{ℕ, _+_, _*_, _/_, _%_, _≤_, _<_}
+use Prim.Native.Nat.{ℕ, zero, suc, _+_, _*_, _/_, _%_, _≤_, _<_}
 use mathlib.Core.Path.{_≡_, refl, sym, ap, _∙_}
 use mathlib.Core.Bool.{Bool, true, false, not, cond}
 use mathlib.Core.List.{List, [], _++_}
 use mathlib.Core.Option.{none}
 use native.Mathlib.Omega.{arith}
-use native.Mathlib.Nat.{add-assoc}
-use lib.Dec.{ltb}
-use lib.ListN.{length, getD, drop, replicate, length-append, length-drop, length-replicate, getD-replicate, List·getD-append}
+use native.Mathlib.Nat.{add-assoc, zero-add}
+use lib.Dec.{ltb, leb}
+use lib.ListN.{length, getD, drop, replicate, length-append, length-drop, length-replicate, getD-replicate, List·getD-append, List·getD-eq-default}
 use lib.Seq.{getD-append-add, getD-drop}
-use borrow.Author.Tests.{eqb-true, ltb-false, not-false}
-use Rattle.metering.specs.Range.{metersInRange, categoriesInRange, datesInRange}
+use borrow.Table.Steps.{cases}
+use borrow.Author.Tests.{eqb-true, leb-true, leb-false, le-leb, ltb-false, not-false}
+use Rattle.metering.specs.Range.{between, metersInRange, categoriesInRange, datesInRange}
 use Rattle.metering.specs.Laws.{between-true, duration-is}
-use Rattle.ledger.specs.Method.{categoryAt}
-use Rattle.ledger.specs.Checks.{verdict, firstFailed, categoryNumber, dayTypeNumber, sizesValid, openingCheck}
+use Rattle.ledger.specs.Method.{categoryAt, windowAt}
+use Rattle.ledger.specs.Checks.{verdict, firstFailed, windowNumber, categoryNumber, dayTypeNumber, sizesValid, openingCheck}
 use Rattle.ledger.specs.Sizes.{headerLength, settingsLength, metersLength, readingsLength, cellsLength, daysLength}
-use Rattle.ledger.specs.Opening.{Opening, categories, dates, periods}
+use Rattle.ledger.specs.Opening.{Opening, windows, windowPlaces, window, categories, dates, periods}
 use Rattle.ledger.specs.Ledger.{anyShort, metersShort, settingsShort}
-use Rattle.ledger.specs.Store.{word, wordBytes, headerBytes, durationOf, metersOf, categoriesOf, datesOf, categoryOf, dayTypeOf, mpanAt, registrationIndex, registrationAt, setIndex, isHeldAt}
+use Rattle.ledger.specs.Store.{word, wordBytes, minuteBytes, headerBytes, durationOf, metersOf, categoriesOf, datesOf, windowOf, categoryOf, dayTypeOf, mpanAt, registrationIndex, registrationAt, setIndex, isHeldAt}
 use Rattle.ledger.specs.Ready.{both}
 use Rattle.ledger.specs.Calls.{openingVerdict, emptied, openedSettings, rowAt}
 use Rattle.ledger.proofs.Choices.{verdict-passed, neither}
@@ -25,7 +26,8 @@ use Rattle.ledger.proofs.Verdicts.{passed-else}
 use Rattle.ledger.proofs.Lists.{block-below}
 use Rattle.ledger.proofs.Days.{none-are}
 use Rattle.ledger.proofs.Relation.{Valid, SettingsAgree, FreeAt, MetersAgree, ReadingsAgree, CellsAgree, dayBy, DaysAgree}
-use Rattle.ledger.proofs.Receive.{set-below}
+use Rattle.ledger.proofs.Receive.{set-below, first-passed}
+use Rattle.ledger.proofs.Windows.{minute-length, minute-byte}
 
 -- ---- what an accepted opening tells
 
@@ -48,6 +50,7 @@ sizes-valid a h =
 pub record OpeningAccepted (settings meters readings cells days : List ℕ) (a : Opening) : Type 0 where
   pub sizes : sizesValid a ≡ true
   pub valid : Valid a
+  pub windows-good : (i : ℕ) → i < windowPlaces a → windowNumber (a .duration) (a .windowMinutes) i ≡ 0
   pub settings-long : settingsLength (categories a) (dates a) ≤ length settings
   pub meters-long : metersLength (a .meters) ≤ length meters
   pub readings-long : readingsLength (a .meters) (dates a) (periods a) ≤ length readings
@@ -58,7 +61,8 @@ pub opening-accepted : (settings meters readings cells days : List ℕ) (a : Ope
 unfolding openingVerdict openingCheck anyShort metersShort settingsShort
 opening-accepted settings meters readings cells days a e =
     let p3 = verdict-passed (not (sizesValid a)) 2 _ e in
-    let p4 = passed-else (firstFailed (categoryNumber (a .categoryBytes)) (categories a) 0) _ (p3 .1) in
+    let p19 = passed-else (firstFailed (windowNumber (a .duration) (a .windowMinutes)) (windowPlaces a) 0) _ (p3 .1) in
+    let p4 = passed-else (firstFailed (categoryNumber (windows a) (a .categoryBytes)) (categories a) 0) _ (p19 .1) in
     let p5 = passed-else (firstFailed (dayTypeNumber (a .dayTypes)) (dates a) 0) _ (p4 .1) in
     let s4 = neither _ (ltb (length days) (daysLength (categories a) (dates a))) (shorts _ (p5 .1)) in
     let s3 = neither _ (ltb (length cells) (cellsLength (categories a) (dates a) (periods a))) (s4 .0) in
@@ -67,6 +71,7 @@ opening-accepted settings meters readings cells days a e =
     record {
       sizes = not-false _ (p3 .0);
       valid = sizes-valid a (not-false _ (p3 .0));
+      windows-good = λ i h. rw (zero-add i) at (first-passed (windowNumber (a .duration) (a .windowMinutes)) (windowPlaces a) 0 (p19 .0) i h);
       settings-long = ltb-false _ _ (s1 .0);
       meters-long = ltb-false _ _ (s1 .1);
       readings-long = ltb-false _ _ (s2 .1);
@@ -88,8 +93,52 @@ module _ (a : Opening) (settings : List ℕ) (whole : length (a .categoryBytes) 
   two n = omega arith
 
   drop-is : drop headerLength (openedSettings a settings) ≡ a .categoryBytes ++ a .dayTypes ++ rest
-  unfolding openedSettings headerBytes wordBytes rest
+  unfolding openedSettings headerBytes wordBytes minuteBytes rest
   drop-is = refl
+
+  abbrev minutes : List ℕ
+  minutes = a .windowMinutes
+
+  -- the bytes of the windows' minutes, after four numbers
+  minutes-are : drop 8 (openedSettings a settings) ≡ minuteBytes 16 minutes ++ a .categoryBytes ++ a .dayTypes ++ rest
+  unfolding openedSettings headerBytes wordBytes rest
+  minutes-are = refl
+
+  minute-is : (k b : ℕ) → k < 16 → b < 2 → getD (openedSettings a settings) (8 + (2 * k + b)) 0 ≡ getD (wordBytes (getD minutes k 0)) b 0
+  minute-is k b h l =
+      sym (getD-drop 8 (openedSettings a settings) (2 * k + b) 0)
+      ∙ rw minutes-are
+      (List·getD-append (minuteBytes 16 minutes ++ a .categoryBytes ++ a .dayTypes) rest 0 (2 * k + b) (omega (arith, long .0))
+      ∙ List·getD-append (minuteBytes 16 minutes ++ a .categoryBytes) (a .dayTypes) 0 (2 * k + b) (omega (arith, long .1))
+      ∙ List·getD-append (minuteBytes 16 minutes) (a .categoryBytes) 0 (2 * k + b) (omega (arith, minute-length 16 minutes))
+      ∙ minute-byte 16 minutes k h b l)
+    where
+      long : (32 ≤ length (minuteBytes 16 minutes ++ a .categoryBytes ++ a .dayTypes)) × (32 ≤ length (minuteBytes 16 minutes ++ a .categoryBytes))
+      long = (
+        omega (arith, length-append (minuteBytes 16 minutes ++ a .categoryBytes) (a .dayTypes), length-append (minuteBytes 16 minutes) (a .categoryBytes), minute-length 16 minutes),
+        omega (arith, length-append (minuteBytes 16 minutes) (a .categoryBytes), minute-length 16 minutes),
+      )
+
+  kept-minute : (k : ℕ) → k < 16 → word (openedSettings a settings) (4 + k) ≡ getD minutes k 0
+  unfolding word
+  kept-minute k h =
+      let high : 2 * (4 + k) ≡ 8 + (2 * k + 0) = omega arith in
+      let low : 2 * (4 + k) + 1 ≡ 8 + (2 * k + 1) = omega arith in
+      rw (low, high, minute-is k 0 h (omega arith), minute-is k 1 h (omega arith)) (unfold wordBytes in two (getD minutes k 0))
+
+  window-is : length minutes ≤ 16 → (w : ℕ) → windowOf (openedSettings a settings) w ≡ window a w
+  unfolding windowOf windowAt between
+  window-is few zero = refl
+  window-is few (suc k) =
+      cases (leb (suc k) 8)
+      (λ q.
+      let low = leb-true (suc k) 8 q in
+      let start : 2 * suc k + 2 ≡ 4 + 2 * k = omega arith in
+      let end : 2 * suc k + 3 ≡ 4 + (2 * k + 1) = omega arith in
+      rw (le-leb 1 (suc k) (omega arith), q, start, end, kept-minute (2 * k) (omega arith), kept-minute (2 * k + 1) (omega arith)))
+      (λ q.
+      let high = leb-false (suc k) 8 q in
+      rw (le-leb 1 (suc k) (omega arith), q, List·getD-eq-default minutes 0 {n = 2 * k} (omega arith), List·getD-eq-default minutes 0 {n = 2 * k + 1} (omega arith)))
 
   byte-is : (i : ℕ) → i < length (a .categoryBytes) → getD (drop headerLength (openedSettings a settings)) i 0 ≡ getD (a .categoryBytes) i 0
   byte-is i h =
@@ -126,21 +175,22 @@ module _ (a : Opening) (settings : List ℕ) (whole : length (a .categoryBytes) 
       ∙ getD-append-add (a .categoryBytes) (a .dayTypes) d 0))
 
   pub settings-length : settingsLength (categories a) (dates a) ≤ length settings → length (openedSettings a settings) ≡ length settings
-  unfolding openedSettings headerBytes wordBytes settingsLength
+  unfolding openedSettings headerBytes wordBytes minuteBytes settingsLength
   settings-length h =
       let x = length-append (a .categoryBytes ++ a .dayTypes) (drop (headerLength + 8 * categories a + dates a) settings) in
       let y = length-append (a .categoryBytes) (a .dayTypes) in
       let z = length-drop (headerLength + 8 * categories a + dates a) settings in
       omega (arith, whole)
 
-  pub settings-agree : settingsLength (categories a) (dates a) ≤ length settings → SettingsAgree a (openedSettings a settings)
+  pub settings-agree : length (a .windowMinutes) ≤ 16 → settingsLength (categories a) (dates a) ≤ length settings → SettingsAgree a (openedSettings a settings)
   unfolding durationOf metersOf datesOf word openedSettings headerBytes wordBytes
-  settings-agree h =
+  settings-agree few h =
       record {
         duration = two (a .duration);
         meters = two (a .meters);
         categories-are = categories-is;
         dates-are = two (dates a);
+        windows = window-is few;
         records = record-is;
         types = type-is;
         long = rw (settings-length h) h;

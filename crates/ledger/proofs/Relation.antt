@@ -9,8 +9,8 @@ use lib.ListN.{length, getD}
 use Rattle.ledger.specs.Method.{Category, ReadingSet, Picture, wattHours, Fresh, absent, freshIn}
 use Rattle.ledger.specs.Checks.{Registration}
 use Rattle.ledger.specs.Sizes.{settingsLength, metersLength, readingsLength, cellsLength, daysLength}
-use Rattle.ledger.specs.Ledger.{Opening, categories, dates, periods, category, dayType, Meter, Draft, Ledger, isHeld, cellBy, isPicture}
-use Rattle.ledger.specs.Store.{durationOf, metersOf, categoriesOf, datesOf, categoryOf, dayTypeOf, mpanAt, registrationAt, registrationsAt, isHeldAt, readingAt, cellOfEntry, DayEntries, notRunEntries, dayEntriesOf}
+use Rattle.ledger.specs.Ledger.{Opening, window, categories, dates, periods, category, dayType, Meter, Draft, Ledger, isHeld, cellBy, isPicture}
+use Rattle.ledger.specs.Store.{durationOf, metersOf, categoriesOf, datesOf, windowOf, categoryOf, dayTypeOf, mpanAt, registrationAt, registrationsAt, isHeldAt, readingAt, cellOfEntry, DayEntries, notRunEntries, dayEntriesOf}
 use Rattle.ledger.proofs.Rows.{CellsAre}
 use Rattle.ledger.proofs.Days.{DaysAre}
 
@@ -54,6 +54,7 @@ pub record SettingsAgree (o : Opening) (s : List ℕ) : Type 0 where
   pub meters : metersOf s ≡ o .meters
   pub categories-are : categoriesOf s ≡ categories o
   pub dates-are : datesOf s ≡ dates o
+  pub windows : (w : ℕ) → windowOf s w ≡ window o w
   pub records : (c : ℕ) → c < categories o → categoryOf s c ≡ category o c
   pub types : (d : ℕ) → d < dates o → dayTypeOf s d ≡ dayType o d
   pub long : settingsLength (categories o) (dates o) ≤ length s
@@ -118,7 +119,7 @@ pub record CellsAgree (o : Opening) (cells : List ℕ) (pictures : ℕ → Optio
 -- the entries of category c and date d that the ledger's cells give; a date not run has none
 unfoldable pub dayBy : Opening → (ℕ → Option Picture) → ℕ → ℕ → DayEntries
 dayBy o pictures c d =
-    cond (isPicture (pictures d)) (dayEntriesOf (o .duration) (category o c .window) (periods o) (λ k. cellBy o pictures d c (suc k))) notRunEntries
+    cond (isPicture (pictures d)) (dayEntriesOf (o .duration) (window o (category o c .window)) (periods o) (λ k. cellBy o pictures d c (suc k))) notRunEntries
 
 -- kept = recounted
 pub record DaysAgree (o : Opening) (days : List ℕ) (pictures : ℕ → Option Picture) : Type 0 where

@@ -16,7 +16,7 @@ use Rattle.metering.specs.Calendar.{periodsPerDay}
 use Rattle.ledger.specs.Method.{Category, isSmart, sameFamily, ReadingSet, Picture, wattHours, present, total, isEnough, freshOf, freshIn, cellOn}
 use Rattle.ledger.specs.Checks.{Registration, later, latestFrom, inForce}
 use Rattle.ledger.specs.Sizes.{cellsLength}
-use Rattle.ledger.specs.Ledger.{Opening, categories, dates, periods, category, dayType, Meter, Ledger, at, dayOf, cellBy, isPicture, heldSetsOf, pictureOf, movedBetween}
+use Rattle.ledger.specs.Ledger.{Opening, window, categories, dates, periods, category, dayType, Meter, Ledger, at, dayOf, cellBy, isPicture, heldSetsOf, pictureOf, movedBetween}
 use Rattle.ledger.specs.Store.{periodsOf, rowLength, categoryOf, FitsEntry, cellOfEntry, isRunAt}
 use Rattle.ledger.specs.Calls.{familyTally, freshAt, entriesFor, rowEntry, rowAt, lastRun, inheritedFrom, newRow, ranFrom, asPublished, stretch, previewed}
 use Rattle.ledger.proofs.Latest.{taken-or-left}
@@ -193,7 +193,7 @@ module _ (o : Opening) (s cells : List ℕ) (agree : SettingsAgree o s) (picture
   recount-is c d hc hd =
       rw (ran-is d hd)
       (cases (isPicture (pictures d))
-      (λ r. rw (r, agree .duration, agree .records c hc, row-length) (entries-cong (o .duration) (category o c .window) (periods o) _ _ (λ k l. entry-is d c k hd hc l r)))
+      (λ r. rw (r, agree .duration, agree .records c hc, agree .windows (category o c .window), row-length) (entries-cong (o .duration) (window o (category o c .window)) (periods o) _ _ (λ k l. entry-is d c k hd hc l r)))
       (λ r. rw r))
 
 -- ---- a run

@@ -12,17 +12,18 @@ use borrow.Table.Steps.{cases}
 use borrow.Author.Tests.{leb-true, leb-false, le-leb, lt-leb, lt-ltb, le-ltb}
 use Rattle.metering.specs.Range.{between, metersInRange, categoriesInRange, datesInRange}
 use Rattle.metering.specs.Calendar.{durationKnown}
+use Rattle.metering.specs.Laws.{between-true}
 use Rattle.ledger.specs.Method.{categoryAt}
 use Rattle.ledger.specs.Sizes.{headerLength, settingsLength, metersLength, readingsLength, cellsLength, daysLength}
 use Rattle.ledger.specs.Ledger.{Opening, categories, dates, periods, settingsShort, metersShort, cellsShort, daysShort, anyShort}
-use Rattle.ledger.specs.Store.{word, durationOf, metersOf, categoriesOf, datesOf, periodsOf, categoryOf, dayTypeOf, isOpened, settingsReady, metersReady, readingsReady, cellsReady, daysReady}
+use Rattle.ledger.specs.Store.{word, durationOf, metersOf, categoriesOf, datesOf, periodsOf, windowOf, categoryOf, dayTypeOf, isOpened, settingsReady, metersReady, readingsReady, cellsReady, daysReady}
 use Rattle.ledger.specs.Calls.{metersUnready, runUnready, cellsUnready, daysUnready}
 use Rattle.ledger.proofs.Lists.{getD-cut}
 use Rattle.ledger.proofs.Relation.{Valid, SettingsAgree}
 
 -- ---- cut, and long enough
 
-word-cut : (n : ℕ) (s : List ℕ) (k : ℕ) → headerLength ≤ n → k < 4 → word (take n s) k ≡ word s k
+word-cut : (n : ℕ) (s : List ℕ) (k : ℕ) → headerLength ≤ n → k < 20 → word (take n s) k ≡ word s k
 unfolding word
 word-cut n s k h l = rw (getD-cut n s (2 * k) (omega arith), getD-cut n s (2 * k + 1) (omega arith))
 
@@ -42,6 +43,13 @@ record-cut n s c h = λ i.
       deMinimis = 256 * byte-cut n s (8 * c + 6) (omega arith) i + byte-cut n s (8 * c + 7) (omega arith) i;
     }
 
+window-cut : (n : ℕ) (s : List ℕ) (w : ℕ) → headerLength ≤ n → windowOf (take n s) w ≡ windowOf s w
+unfolding windowOf
+window-cut n s w h =
+    cases (between 1 8 w)
+    (λ q. let b = between-true 1 8 w .0 q in rw (word-cut n s (2 * w + 2) h (omega arith), word-cut n s (2 * w + 3) h (omega arith)))
+    (λ q. rw q)
+
 pub settings-cut : (o : Opening) (s : List ℕ) (n : ℕ) → SettingsAgree o s → settingsLength (categories o) (dates o) ≤ length (take n s) → SettingsAgree o (take n s)
 unfolding settingsLength durationOf metersOf categoriesOf datesOf dayTypeOf
 settings-cut o s n a h =
@@ -53,6 +61,7 @@ settings-cut o s n a h =
       meters = word-cut n s 1 (omega arith) (omega arith) ∙ a .meters;
       categories-are = C;
       dates-are = word-cut n s 3 (omega arith) (omega arith) ∙ a .dates-are;
+      windows = λ w. window-cut n s w (omega arith) ∙ a .windows w;
       records = λ c m. record-cut n s c (omega arith) ∙ a .records c m;
       types = λ d m. rw C (getD-cut n s (headerLength + 8 * categories o + d) (omega arith) ∙ rw (a .categories-are) at (a .types d m));
       long = h;

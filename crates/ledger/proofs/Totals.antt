@@ -11,8 +11,8 @@ use borrow.Table.Steps.{cases}
 use borrow.Author.Tests.{leb-true, leb-false}
 use Rattle.metering.specs.Sum.{sumBelow, sumBelow-zero, sumBelow-suc, sumBelow-le}
 use Rattle.metering.specs.Average.{annual}
-use Rattle.metering.specs.Calendar.{liesWithin, windowStart, windowEnd}
-use Rattle.ledger.specs.Method.{Cell, overRunDates, freshAmong, blanksAmong, totOn, offOn, peakOn, totalsOn}
+use Rattle.metering.specs.Calendar.{liesWithin}
+use Rattle.ledger.specs.Method.{Cell, Window, overRunDates, freshAmong, blanksAmong, totOn, offOn, peakOn, totalsOn}
 use Rattle.ledger.specs.Store.{dayIndex, DayEntries, notRunEntries, dayEntry, dayEntryOf, totEntry, totAmong, offAmong, dayEntriesOf, dayFresh, dayBlanks, energyOf, runDatesOf, peakOf, totalsOf}
 use Rattle.ledger.specs.Calls.{stretchSum, datesSum}
 use Rattle.ledger.proofs.Lists.{sumBelow-cong, sumBelow-none, sumBelow-front, sumBelow-most, part-le}
@@ -94,14 +94,14 @@ day-counted P h cells = let fresh = fresh-most P cells in let blanks = blanks-mo
 
 -- ---- what is kept of the dates up to d gives the method's totals of d
 
-module _ (duration P w : ℕ) (h : P ≤ 96) (run : ℕ → Bool) (cell : ℕ → ℕ → Cell) (e : ℕ → DayEntries) (d : ℕ)
-    (are : (y : ℕ) → y ≤ d → e y ≡ cond (run y) (dayEntriesOf duration w P (λ k. cell y (suc k))) notRunEntries)
+module _ (duration P w : ℕ) (window : Window) (h : P ≤ 96) (run : ℕ → Bool) (cell : ℕ → ℕ → Cell) (e : ℕ → DayEntries) (d : ℕ)
+    (are : (y : ℕ) → y ≤ d → e y ≡ cond (run y) (dayEntriesOf duration window P (λ k. cell y (suc k))) notRunEntries)
     (small : (y k : ℕ) → y ≤ d → k < P → cell y (suc k) .value < 4294967296) where
   abbrev tot : ℕ → ℕ
-  tot y = totOn duration P w run cell y
+  tot y = totOn duration P w window run cell y
 
   abbrev off : ℕ → ℕ
-  off y = offOn duration P w run cell y
+  off y = offOn duration P w window run cell y
 
   -- 96 values of 32 bits
   tot-most : (y : ℕ) → y ≤ d → tot y ≤ 412316860320
@@ -111,13 +111,13 @@ module _ (duration P w : ℕ) (h : P ≤ 96) (run : ℕ → Bool) (cell : ℕ �
 
   off-le : (y : ℕ) → off y ≤ tot y
   unfolding totOn offOn
-  off-le y = sumBelow-le P _ _ (λ k l. part-le (liesWithin duration (windowStart w) (windowEnd w) (suc k)) (cell y (suc k) .value))
+  off-le y = sumBelow-le P _ _ (λ k l. part-le (liesWithin duration (window .start) (window .end) (suc k)) (cell y (suc k) .value))
 
-  peak-is : (y : ℕ) → peakOn duration P w run cell y ≡ cond (eqb w 0) 0 (tot y - off y)
+  peak-is : (y : ℕ) → peakOn duration P w window run cell y ≡ cond (eqb w 0) 0 (tot y - off y)
   unfolding peakOn
   peak-is y = refl
 
-  peaks-are : (n : ℕ) → overRunDates run n (peakOn duration P w run cell) d ≡ cond (eqb w 0) 0 (overRunDates run n tot d - overRunDates run n off d)
+  peaks-are : (n : ℕ) → overRunDates run n (peakOn duration P w window run cell) d ≡ cond (eqb w 0) 0 (overRunDates run n tot d - overRunDates run n off d)
   unfolding peakOn
   peaks-are n = peaks run n d tot off off-le (eqb w 0)
 
@@ -158,21 +158,21 @@ module _ (duration P w : ℕ) (h : P ≤ 96) (run : ℕ → Bool) (cell : ℕ �
       let none : overRunDates run n (λ _. 0) d ≡ 0 = omega arith in
       rw (sum, none) (omega arith)
 
-  pub totals-kept : run d ≡ true → totalsOf w (e d) (tots 7) (offs 7) (tots 365) ≡ totalsOn duration P w run cell d
+  pub totals-kept : run d ≡ true → totalsOf w (e d) (tots 7) (offs 7) (tots 365) ≡ totalsOn duration P w window run cell d
   unfolding totalsOf totalsOn peakOf
   totals-kept r =
       let week = tots-are 7 (omega arith) in
       let offWeek = offs-are 7 (omega arith) in
       let year = tots-are 365 (omega arith) in
-      let here : e d ≡ dayEntriesOf duration w P (λ k. cell d (suc k)) = are d (omega arith) ∙ rw r in
+      let here : e d ≡ dayEntriesOf duration window P (λ k. cell d (suc k)) = are d (omega arith) ∙ rw r in
       let tot-here : energyOf (e d .tot) ≡ tot d = unfold energyOf in rw (tot-kept d (omega arith), r) (let m = tot-most d (omega arith) in omega arith) in
       let off-here : energyOf (e d .off) ≡ off d = unfold energyOf in rw (off-kept d (omega arith), r) (let m = tot-most d (omega arith) in let l = off-le d in omega arith) in
       let day-here : e d .day ≡ dayEntryOf P (λ k. cell d (suc k)) = ap (λ (a : DayEntries). a .day) here ∙ (unfold dayEntriesOf in refl) in
       let counts = day-counted P h (λ k. cell d (suc k)) in
       let fresh-here : dayFresh (e d .day) ≡ freshAmong P (λ k. cell d (suc k)) = rw day-here (counts .0) in
       let blanks-here : dayBlanks (e d .day) ≡ blanksAmong P (λ k. cell d (suc k)) = rw day-here (counts .1) in
-      let peak-here : cond (eqb w 0) 0 (energyOf (e d .tot) - energyOf (e d .off)) ≡ peakOn duration P w run cell d = rw (tot-here, off-here) (sym (peak-is d)) in
-      let peak-week : cond (eqb w 0) 0 (energyOf (tots 7) - energyOf (offs 7)) ≡ overRunDates run 7 (peakOn duration P w run cell) d =
+      let peak-here : cond (eqb w 0) 0 (energyOf (e d .tot) - energyOf (e d .off)) ≡ peakOn duration P w window run cell d = rw (tot-here, off-here) (sym (peak-is d)) in
+      let peak-week : cond (eqb w 0) 0 (energyOf (tots 7) - energyOf (offs 7)) ≡ overRunDates run 7 (peakOn duration P w window run cell) d =
       rw (week .0, offWeek) (sym (peaks-are 7)) in
       λ i.
       record {

@@ -1,5 +1,5 @@
 -- What is promised, in the scope paper's words. The proofs are in proofs/Agreement.antt, and in proofs/Demands.antt and the files there whose names end in Demands.
-use Prim.Native.Nat.{ℕ, zero, suc, _+_, _*_, _/_, _%_, _≤_, _<_}
+use Prim.Native.Nat.{ℕ, zero, suc, _+_, _-_, _*_, _/_, _%_, _≤_, _<_}
 use mathlib.Core.Path.{_≡_}
 use mathlib.Core.Logic.{_≢_, _↔_, _⊎_}
 use mathlib.Core.Bool.{Bool, true, false, not, _&&_, cond}
@@ -12,14 +12,14 @@ use Rattle.metering.specs.Mpan.{mpanValid}
 use Rattle.metering.specs.Calendar.{durationKnown, periodsPerDay}
 use Rattle.metering.specs.Sum.{sumBelow}
 use Rattle.metering.specs.Average.{Rounded}
-use Rattle.ledger.specs.Method.{Category, sameFamily, Picture, wattHours, present, total, absent, freshIn, Flag, A, D, E, N, flagNumber, Cell, blank, carried, cellFrom, latest, movedCell, Coverage}
+use Rattle.ledger.specs.Method.{Category, methodWindows, sameFamily, Picture, wattHours, present, total, absent, freshIn, Flag, A, D, E, N, flagNumber, Cell, blank, carried, cellFrom, latest, movedCell, Coverage}
 use Rattle.ledger.specs.Table.{tabulate, chosenBelow}
 use Rattle.ledger.specs.Net.{activeImport, activeExport, onSide, sumOver, anyOf, netOn}
 use Rattle.ledger.specs.Band.{BandCall}
 use Rattle.ledger.specs.Fill.{ShapeOf, ofCategory, ofOptedOut, FillCall, weightBy, mayFill, remainderOf, leftOver, filledValues}
 use Rattle.ledger.specs.Checks.{Registration, RegistrationCall, registered, inForce, appointed, foundIn, ReceptionCall, endMinute, quality, wattHoursAt, openingCheck, NetCall, mayNet, PreviewCall, RowCall, isPublished}
 use Rattle.ledger.specs.Sizes.{settingsLength, metersLength, readingsLength, cellsLength, daysLength}
-use Rattle.ledger.specs.Ledger.{Opening, categories, dates, periods, category, dayType, Meter, Ledger, Call, register, start, receive, run, readTotals, readCell, readNet, searchBand, fillHole, readCoverage, preview, readRow, Answer, refused, accepted, moved, totalsAre, cellIs, netIs, bandIs, filledAre, coverageIs, rowIs, answer, Lengths, leastLengths, metersShort, cellsShort, anyShort, meterWith, registrationsOf, cellAt, dayOf, isRun, pictureOf, afterRun, movedBetween, totalsAt, sideAt, netAt, bandAt, shapeAt, fillAt, coverageAt, rowShown, ledgerAnswer, ledgerAfter}
+use Rattle.ledger.specs.Ledger.{Opening, windows, windowPlaces, window, categories, dates, periods, category, dayType, Meter, Ledger, Call, register, start, receive, run, readTotals, readCell, readNet, searchBand, fillHole, readCoverage, preview, readRow, Answer, refused, accepted, moved, totalsAre, cellIs, netIs, bandIs, filledAre, coverageIs, rowIs, answer, Lengths, leastLengths, metersShort, cellsShort, anyShort, meterWith, registrationsOf, cellAt, dayOf, isRun, pictureOf, afterRun, movedBetween, totalsAt, sideAt, netAt, bandAt, shapeAt, fillAt, coverageAt, rowShown, ledgerAnswer, ledgerAfter}
 use Rattle.ledger.specs.Store.{rowLength}
 use Rattle.ledger.specs.Calls.{openingVerdict}
 use Rattle.ledger.specs.Engine.{Parts, callAnswer, withDraft, leaves, openedParts, Item, storeAnswers, cutLengths, lengthsOf, AreBytes, BodiesOfBytes, Every, draftOf}
@@ -171,15 +171,27 @@ pub record GoodSizes (o : Opening) : Type 0 where
   pub categories : (C : ℕ) × (1 ≤ C) × (C ≤ 64) × (length (o .categoryBytes) ≡ 8 * C)
   pub dates : (1 ≤ length (o .dayTypes)) × (length (o .dayTypes) ≤ 800)
 
--- 4: the fields of a category record
-abbrev pub ValidSmart : Category → Type 0
-ValidSmart a = (a .segment ≡ 1) × (1 ≤ a .group) × (a .group ≤ 14) × (1 ≤ a .domestic) × (a .domestic ≤ 2) × (a .window ≤ 2)
+-- 19: one of eight that has both its minutes; these come after so many whole periods, in order, and the later one within the day
+pub record GoodWindow (o : Opening) (i : ℕ) : Type 0 where
+  pub one-of-eight : i < 8
+  pub both-minutes : 2 * i + 2 ≤ length (o .windowMinutes)
+  pub before : ℕ
+  pub until : ℕ
+  pub starts : window o (suc i) .start ≡ before * o .duration
+  pub ends : window o (suc i) .end ≡ until * o .duration
+  pub order : window o (suc i) .start < window o (suc i) .end
+  pub in-the-day : window o (suc i) .end ≤ 1440
+
+-- 4: the fields of a category record; the window, if any, is one of those whose minutes are there
+abbrev pub ValidSmart : Opening → Category → Type 0
+ValidSmart o a =
+    (a .segment ≡ 1) × (1 ≤ a .group) × (a .group ≤ 14) × (1 ≤ a .domestic) × (a .domestic ≤ 2) × (2 * a .window ≤ length (o .windowMinutes))
 
 abbrev pub ValidAdvanced : Category → Type 0
 ValidAdvanced a = (a .segment ≡ 2) × (a .group ≡ 0) × (a .domestic ≡ 0) × (a .window ≡ 0)
 
-pub record ValidCategory (a : Category) : Type 0 where
-  pub segment : ValidSmart a ⊎ ValidAdvanced a
+pub record ValidCategory (o : Opening) (a : Category) : Type 0 where
+  pub segment : ValidSmart o a ⊎ ValidAdvanced a
   pub quantity : (1 ≤ a .quantity) × (a .quantity ≤ 2)
   pub connection : (1 ≤ a .connection) × (a .connection ≤ 4)
 
@@ -193,7 +205,7 @@ pub record SameKey (a b : Category) : Type 0 where
 
 -- a good record has a key that no earlier one has
 abbrev pub GoodCategory : Opening → ℕ → Type 0
-GoodCategory o i = ValidCategory (category o i) × ((k : ℕ) → k < i → SameKey (category o k) (category o i) → ⊥)
+GoodCategory o i = ValidCategory o (category o i) × ((k : ℕ) → k < i → SameKey (category o k) (category o i) → ⊥)
 
 -- 5
 abbrev pub GoodDayType : Opening → ℕ → Type 0
@@ -202,15 +214,17 @@ GoodDayType o i = (1 ≤ dayType o i) × (dayType o i ≤ 16)
 abbrev pub openingRows : Opening → Lengths → List Row
 openingRows o n =
     row 3 (GoodSizes o)
-    ∷ (eachBelow (categories o) (λ i. rowOf i 4 (GoodCategory o i) ∷ [])
+    ∷ (eachBelow (windowPlaces o) (λ i. rowOf i 19 (GoodWindow o i) ∷ [])
+    ++ (eachBelow (categories o) (λ i. rowOf i 4 (GoodCategory o i) ∷ [])
     ++ (eachBelow (dates o) (λ i. rowOf i 5 (GoodDayType o i) ∷ [])
     ++ (row 1 (AllLong o n)
-    ∷ [])))
+    ∷ []))))
 
 abbrev pub OpeningExact : Type 0
 OpeningExact = (o : Opening) (n : Lengths) → GoesBy (openingRows o n) accepted (answer (openingCheck o (anyShort o n)) accepted)
 
--- so the place of 4 is that of the first bad record, and the place of 5, where all records are good, that of the first bad day type
+-- so the place of 19 is that of the first bad window, the place of 4, where all windows are good, that of the first bad record, and the place of
+-- 5, where all records are good too, that of the first bad day type
 abbrev pub FirstBad : (ℕ → Type 0) → ℕ → ℕ → Type 0
 FirstBad good n i = (i < n) × ((k : ℕ) → k < i → good k) × (good i → ⊥)
 
@@ -218,8 +232,16 @@ abbrev pub OpeningPlaces : Type 0
 OpeningPlaces =
     (o : Opening) (n : Lengths) (i : ℕ) →
     let heard = answer (openingCheck o (anyShort o n)) accepted in
-    ((heard ≡ refused 4 (suc i)) ↔ (GoodSizes o × FirstBad (GoodCategory o) (categories o) i))
-    × ((heard ≡ refused 5 (suc i)) ↔ (GoodSizes o × ((k : ℕ) → k < categories o → GoodCategory o k) × FirstBad (GoodDayType o) (dates o) i))
+    let all-windows = (k : ℕ) → k < windowPlaces o → GoodWindow o k in
+    ((heard ≡ refused 19 (suc i)) ↔ (GoodSizes o × FirstBad (GoodWindow o) (windowPlaces o) i))
+    × ((heard ≡ refused 4 (suc i)) ↔ (GoodSizes o × all-windows × FirstBad (GoodCategory o) (categories o) i))
+    × ((heard ≡ refused 5 (suc i)) ↔ (GoodSizes o × all-windows × ((k : ℕ) → k < categories o → GoodCategory o k) × FirstBad (GoodDayType o) (dates o) i))
+
+-- an accepted opening has a start and an end for each of its windows, and eight of them at most
+abbrev pub WindowsWhole : Type 0
+WindowsWhole =
+    (o : Opening) (short : Bool) → openingCheck o short .number ≡ 0 →
+    (length (o .windowMinutes) ≡ 2 * windows o) × (windows o ≤ 8) × ((i : ℕ) → i < windows o → GoodWindow o i)
 
 -- and no two categories of an accepted opening share a key
 abbrev pub KeysDiffer : Type 0
@@ -466,6 +488,46 @@ OffAndPeak =
     (totalsAt l d c .peak + totalsAt l d c .off ≡ totalsAt l d c .tot) × (totalsAt l d c .peak7 + totalsAt l d c .off7 ≡ totalsAt l d c .tot7))
     × (category (l .opening) c .window ≡ 0 →
     (totalsAt l d c .off ≡ 0) × (totalsAt l d c .peak ≡ 0) × (totalsAt l d c .off7 ≡ 0) × (totalsAt l d c .peak7 ≡ 0))
+
+-- the periods from one minute of the grid to another
+abbrev pub periodsFrom : ℕ → ℕ → ℕ → List ℕ
+periodsFrom duration start end = tabulate (end / duration - start / duration) (λ k. start / duration + suc k)
+
+-- what a category's periods come to on a date
+abbrev pub valuesOver : Ledger → ℕ → List ℕ → ℕ → ℕ
+valuesOver l c js d = sumOver js (λ j. cellAt l d c j .value)
+
+-- OFF and PEAK are those of so many off-peak and so many peak periods, on a date and over seven
+pub record OffAndPeakOver (l : Ledger) (d c : ℕ) (offPeak peak : List ℕ) : Type 0 where
+  pub off : totalsAt l d c .off ≡ valuesOver l c offPeak d
+  pub peak-is : totalsAt l d c .peak ≡ valuesOver l c peak d
+  pub off7 : totalsAt l d c .off7 ≡ sumOver (runDatesAmong l 7 d) (valuesOver l c offPeak)
+  pub peak7 : totalsAt l d c .peak7 ≡ sumOver (runDatesAmong l 7 d) (valuesOver l c peak)
+
+-- they are the periods from a window's start to its end, and those before and after it
+abbrev pub WindowPeriods : Type 0
+WindowPeriods =
+    (l : Ledger) (d c i : ℕ) → durationKnown (l .opening .duration) ≡ true → category (l .opening) c .window ≡ suc i → GoodWindow (l .opening) i →
+    let from = periodsFrom (l .opening .duration) in
+    let own = window (l .opening) (suc i) in
+    OffAndPeakOver l d c (from (own .start) (own .end)) (from 0 (own .start) ++ from (own .end) 1440)
+
+-- so with METH005's two windows they are as METH005 has them (000, 11.1 and 12.1): off-peak 00:00 to 07:00 and peak 07:00 to 00:00, or off-peak
+-- 00:30 to 07:30 and peak 00:00 to 00:30 and 07:30 to 00:00. The other totals do not depend on a window
+abbrev pub MethodTotals : Type 0
+MethodTotals =
+    (l : Ledger) (d c : ℕ) → durationKnown (l .opening .duration) ≡ true → l .opening .windowMinutes ≡ methodWindows →
+    let from = periodsFrom (l .opening .duration) in
+    (category (l .opening) c .window ≡ 1 → OffAndPeakOver l d c (from 0 420) (from 420 1440))
+    × (category (l .opening) c .window ≡ 2 → OffAndPeakOver l d c (from 30 450) (from 0 30 ++ from 450 1440))
+
+-- and with a window that is the whole day OFF is TOT, and PEAK is 0
+abbrev pub WholeDay : Type 0
+WholeDay =
+    (l : Ledger) (d c : ℕ) → durationKnown (l .opening .duration) ≡ true →
+    let own = window (l .opening) (category (l .opening) c .window) in
+    own .start ≡ 0 → own .end ≡ 1440 →
+    (totalsAt l d c .off ≡ totalsAt l d c .tot) × (totalsAt l d c .peak ≡ 0) × (totalsAt l d c .off7 ≡ totalsAt l d c .tot7) × (totalsAt l d c .peak7 ≡ 0)
 
 -- how many periods of a date have a cell with this flag
 abbrev pub flaggedOn : Ledger → ℕ → ℕ → Flag → ℕ

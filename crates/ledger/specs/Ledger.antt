@@ -13,7 +13,7 @@ use Rattle.ledger.specs.Fill.{FillCall, shapeCategory, weightBy, mayFill
 use Rattle.ledger.specs.Checks.{Registration, RegistrationCall, ReceptionCall, Verdict, verdict, registered, startOf, inForce, registrationCheck, receptionCheck, readingIn, anyBelow, runCheck, readCheck, totalsInRange, cellInRange, NetCall, listsShort, mayNet, netCheck, bandCheck, fillCheck, PreviewCall, RowCall, isPublished, previewCheck, rowCheck}
 use Rattle.ledger.specs.Table.{tabulate}
 use Rattle.ledger.specs.Sizes.{settingsLength, metersLength, readingsLength, cellsLength, daysLength, draftLength}
-pub use Rattle.ledger.specs.Opening.{Opening, categories, dates, periods, category, dayType}
+pub use Rattle.ledger.specs.Opening.{Opening, windows, windowPlaces, window, categories, dates, periods, category, dayType}
 
 -- ---- what it keeps
 
@@ -248,7 +248,7 @@ ledgerCellCheck l n d c j =
 
 unfoldable pub totalsAt : Ledger → ℕ → ℕ → Totals
 totalsAt l d c =
-    totalsOn (l .opening .duration) (periods (l .opening)) (category (l .opening) c .window) (isRun l) (λ x j. cellAt l x c j) d
+    totalsOn (l .opening .duration) (periods (l .opening)) (category (l .opening) c .window) (window (l .opening) (category (l .opening) c .window)) (isRun l) (λ x j. cellAt l x c j) d
 
 unfoldable pub ledgerNetCheck : Ledger → Lengths → NetCall → Verdict
 ledgerNetCheck l n a =

@@ -1,4 +1,4 @@
--- The scope paper's marked list as one computed check; its worked example, one of nets, one of bands, one of fills, one of coverage, one of senders, one of remainders and one of previews as computed runs of the ledger.
+-- The scope paper's marked list as one computed check; its worked example, one of nets, one of bands, one of fills, one of coverage, one of senders, one of remainders, one of previews and one of windows as computed runs of the ledger; and a computed check of openings with windows.
 use Prim.Native.Nat.{ℕ, zero, suc, _/_, _%_}
 use mathlib.Core.Path.{_≡_, refl}
 use mathlib.Core.Bool.{Bool, true, false, not, _&&_, Bool·beq}
@@ -10,14 +10,14 @@ use lib.ListN.{replicate}
 use Rattle.metering.specs.Sum.{sumBelow}
 use Rattle.metering.specs.Mpan.{mpanValid, checkDigit, weightedSum, product, digit, weights}
 use Rattle.metering.specs.Average.{average, remainder, annual}
-use Rattle.metering.specs.Range.{between, dayTypeValid}
-use Rattle.metering.specs.Calendar.{periodsPerDay, periodEnding, liesWithin, windowStart, windowEnd}
-use Rattle.ledger.specs.Method.{Category, categoryAt, isSmart, sameFamily, HeldSet, Picture, total, isEnough, freshOf, freshIn, Flag, A, D, E, N, Cell, blank, carried, cellFrom, ran, afterDate, latest, cellOf, cellOn, sameCell, movedCell, overRunDates, freshAmong, blanksAmong, totOn, offOn, peakOn, totalsOn, originOf, oldestAmong, coverageOn}
+use Rattle.metering.specs.Range.{between, metersInRange, categoriesInRange, datesInRange, dayTypeValid, smartValid, advancedValid, categoryValid}
+use Rattle.metering.specs.Calendar.{durationKnown, periodsPerDay, periodEnding, liesWithin, windowValid}
+use Rattle.ledger.specs.Method.{Category, categoryAt, windowAt, methodWindows, isSmart, sameFamily, HeldSet, Picture, total, isEnough, freshOf, freshIn, Flag, A, D, E, N, Cell, blank, carried, cellFrom, ran, afterDate, latest, cellOf, cellOn, sameCell, movedCell, overRunDates, freshAmong, blanksAmong, totOn, offOn, peakOn, totalsOn, originOf, oldestAmong, coverageOn}
 use Rattle.ledger.specs.Table.{tabulate, chosenBelow, firstFrom}
 use Rattle.ledger.specs.Net.{onSide, sideOf, sumOver, anyOf, signedSum, netPeriod, markOf, netTot, netTot7, netOn}
 use Rattle.ledger.specs.Band.{inBand, bandDates, bandOn}
 use Rattle.ledger.specs.Fill.{ShapeOf, ofCategory, ofOptedOut, isOptedOutShape, shapeCategory, weightBy, mayFill, comesBefore, countBefore, wholePart, remainderOf, leftOver, filledValue, filledValues}
-use Rattle.ledger.specs.Checks.{firstFailed, anyBelow, orElse, firstNumber, callNumber, contentNumber, recordNumberIf, recordNumber, endMinute, quality, wattHoursAt, momentOf, startOf, starts, later, latestFrom, inForce, appointed, notAfterLast, fieldsNumber, knownNumber, meterNumber, registrationCheck, headerNumber, bodyCheck, inForceCheck, receptionCheck, isReading, readingIn, runCheck, readCheck, totalsInRange, cellInRange, listsShort, mayNet, netCheck, bandCheck, fillCheck, previewCheck, rowCheck}
+use Rattle.ledger.specs.Checks.{firstFailed, anyBelow, windowNumber, recordAt, categoryNumber, dayTypeNumber, orElse, sizesValid, openingCheck, firstNumber, callNumber, contentNumber, recordNumberIf, recordNumber, endMinute, quality, wattHoursAt, momentOf, startOf, starts, later, latestFrom, inForce, appointed, notAfterLast, fieldsNumber, knownNumber, meterNumber, registrationCheck, headerNumber, bodyCheck, inForceCheck, receptionCheck, isReading, readingIn, runCheck, readCheck, totalsInRange, cellInRange, listsShort, mayNet, netCheck, bandCheck, fillCheck, previewCheck, rowCheck}
 use Rattle.ledger.specs.Sizes.{settingsLength, metersLength, readingsLength, cellsLength, daysLength, draftLength}
 use Rattle.ledger.specs.Ledger.{Opening, Ledger, start, Call, register, receive, run, readTotals, readCell, readNet, searchBand, fillHole, readCoverage, preview, readRow, Answer, refused, accepted, moved, totalsAre, cellIs, netIs, bandIs, filledAre, coverageIs, rowIs, answer, left, Lengths, leastLengths, settingsShort, metersShort, cellsShort, daysShort, anyShort, meterWith, changed, heldFrom, ledgerRegistrationCheck, registerIn, afterRegistration, ledgerReceptionCheck, setOf, at, afterReception, cellBy, cellAt, isRun, ledgerRunCheck, pictureOf, afterRun, movedBetween, ledgerTotalsCheck, ledgerCellCheck, totalsAt, ledgerNetCheck, sideAt, netAt, ledgerBandCheck, bandAt, shapeAt, weightAt, ledgerFillCheck, fillAt, ledgerCoverageCheck, coverageAt, draftShort, ledgerPreviewCheck, afterPreview, ledgerRowCheck, rowShown, ledgerAnswer, ledgerAfter}
 use Rattle.ledger.specs.Store.{flagNumberOf, cellOfEntry}
@@ -29,9 +29,11 @@ unfoldable pub everyPeriod : ℕ → (ℕ → Bool) → Bool
 everyPeriod zero f = true
 everyPeriod (suc n) f = everyPeriod n f && f (suc n)
 
--- window w at a duration is the periods from low to high
+-- window w of METH005's at a duration is the periods from low to high
 unfoldable pub windowIs : ℕ → ℕ → ℕ → ℕ → Bool
-windowIs d w low high = everyPeriod (periodsPerDay d) (λ j. Bool·beq (liesWithin d (windowStart w) (windowEnd w) j) (between low high j))
+windowIs d w low high =
+    let own = windowAt methodWindows w in
+    everyPeriod (periodsPerDay d) (λ j. Bool·beq (liesWithin d (own .start) (own .end) j) (between low high j))
 
 -- the Smart import category of a GSP group, with a de-minimis count
 abbrev pub smart : ℕ → ℕ → Category
@@ -63,7 +65,7 @@ markedList =
     && eqb (annual 1000 3) 121667
 
 pub marked-list : markedList ≡ true
-unfolding markedList mpanValid checkDigit weightedSum product digit weights sumBelow average remainder annual recordNumber periodEnding windowIs everyPeriod periodsPerDay liesWithin windowStart windowEnd between sameCell firstCell blank cellOn cellOf cellFrom latest freshIn freshOf isEnough total isSmart sameFamily anyBelow endMinute quality wattHoursAt carried recordNumberIf contentNumber
+unfolding markedList mpanValid checkDigit weightedSum product digit weights sumBelow average remainder annual recordNumber periodEnding windowIs everyPeriod periodsPerDay liesWithin windowAt between sameCell firstCell blank cellOn cellOf cellFrom latest freshIn freshOf isEnough total isSmart sameFamily anyBelow endMinute quality wattHoursAt carried recordNumberIf contentNumber
 marked-list = refl
 
 -- ---- the worked example
@@ -73,7 +75,7 @@ exampleMpan = 1000000000003
 
 -- two dates of day type 1, one Smart category with window 1 and de-minimis 1
 abbrev pub exampleOpening : Opening
-exampleOpening = record { duration = 30; meters = 1; categoryBytes = 1 ∷ 1 ∷ 1 ∷ 1 ∷ 1 ∷ 1 ∷ 0 ∷ 1 ∷ []; dayTypes = 1 ∷ 1 ∷ [] }
+exampleOpening = record { duration = 30; meters = 1; windowMinutes = methodWindows; categoryBytes = 1 ∷ 1 ∷ 1 ∷ 1 ∷ 1 ∷ 1 ∷ 0 ∷ 1 ∷ []; dayTypes = 1 ∷ 1 ∷ [] }
 
 -- 500 Wh in period 1, 250 Wh in period 16
 abbrev pub exampleCalls : List Call
@@ -118,6 +120,7 @@ netOpening =
     record {
       duration = 30;
       meters = 3;
+      windowMinutes = [];
       categoryBytes =
           1 ∷ 1 ∷ 1 ∷ 1 ∷ 1 ∷ 0 ∷ 0 ∷ 1
           ∷ 1 ∷ 1 ∷ 1 ∷ 2 ∷ 1 ∷ 0 ∷ 0 ∷ 1
@@ -143,7 +146,7 @@ sends = sendsBy 7
 
 -- a record of quality 1 with fewer than 65,536 Wh
 abbrev pub half : ℕ → ℕ → List ℕ → List ℕ
-half end wh rest = 0 ∷ end ∷ 1 ∷ 0 ∷ 0 ∷ wh / 256 ∷ wh % 256 ∷ rest
+half end wh rest = end / 256 ∷ end % 256 ∷ 1 ∷ 0 ∷ 0 ∷ wh / 256 ∷ wh % 256 ∷ rest
 
 abbrev pub asksNet : Bool → ℕ → ℕ → Call
 asksNet allGroups d c = readNet (record { allGroups = allGroups; date = d; category = c; numbers = 48; marks = 50 })
@@ -195,7 +198,7 @@ netAnswers =
 -- five dates, the second of another day type
 abbrev pub bandOpening : Opening
 bandOpening =
-    record { duration = 30; meters = 1; categoryBytes = 1 ∷ 1 ∷ 1 ∷ 1 ∷ 1 ∷ 0 ∷ 0 ∷ 1 ∷ []; dayTypes = 1 ∷ 2 ∷ 1 ∷ 1 ∷ 1 ∷ [] }
+    record { duration = 30; meters = 1; windowMinutes = []; categoryBytes = 1 ∷ 1 ∷ 1 ∷ 1 ∷ 1 ∷ 0 ∷ 0 ∷ 1 ∷ []; dayTypes = 1 ∷ 2 ∷ 1 ∷ 1 ∷ 1 ∷ [] }
 
 abbrev pub sendsDay : ℕ → ℕ → Call
 sendsDay date wh = sends exampleMpan date 1 (half 30 wh [])
@@ -250,6 +253,7 @@ fillOpening =
     record {
       duration = 30;
       meters = 1;
+      windowMinutes = [];
       categoryBytes =
           1 ∷ 1 ∷ 1 ∷ 1 ∷ 1 ∷ 0 ∷ 0 ∷ 1
           ∷ 1 ∷ 1 ∷ 2 ∷ 1 ∷ 1 ∷ 0 ∷ 0 ∷ 1
@@ -329,6 +333,7 @@ coverageOpening =
     record {
       duration = 30;
       meters = 1;
+      windowMinutes = [];
       categoryBytes = 1 ∷ 1 ∷ 1 ∷ 1 ∷ 1 ∷ 0 ∷ 0 ∷ 1 ∷ [];
       dayTypes = replicate 9 1;
     }
@@ -387,6 +392,7 @@ senderOpening =
     record {
       duration = 30;
       meters = 2;
+      windowMinutes = [];
       categoryBytes =
           1 ∷ 1 ∷ 1 ∷ 1 ∷ 1 ∷ 0 ∷ 0 ∷ 1
           ∷ 1 ∷ 1 ∷ 1 ∷ 1 ∷ 2 ∷ 0 ∷ 0 ∷ 1
@@ -458,6 +464,7 @@ remainderOpening =
     record {
       duration = 30;
       meters = 3;
+      windowMinutes = [];
       categoryBytes =
           1 ∷ 1 ∷ 1 ∷ 1 ∷ 1 ∷ 0 ∷ 0 ∷ 1
           ∷ 1 ∷ 2 ∷ 1 ∷ 1 ∷ 1 ∷ 0 ∷ 0 ∷ 1
@@ -526,6 +533,7 @@ previewOpening =
     record {
       duration = 30;
       meters = 1;
+      windowMinutes = [];
       categoryBytes =
           1 ∷ 1 ∷ 1 ∷ 1 ∷ 1 ∷ 0 ∷ 0 ∷ 1
           ∷ 2 ∷ 0 ∷ 0 ∷ 1 ∷ 1 ∷ 0 ∷ 0 ∷ 1
@@ -597,7 +605,72 @@ previewAnswers =
     ∷ rowWith (oneReading A 6 ∷ oneReading A 9 ∷ []) 46
     ∷ []
 
--- ---- all eight, computed
+-- ---- a worked example of windows (change request 2026-06)
+
+-- three groups of one family with a window each: two hours before noon, the day's last hour, and the whole day
+abbrev pub windowOpening : Opening
+windowOpening =
+    record {
+      duration = 30;
+      meters = 1;
+      windowMinutes = 600 ∷ 720 ∷ 1380 ∷ 1440 ∷ 0 ∷ 1440 ∷ [];
+      categoryBytes =
+          1 ∷ 1 ∷ 1 ∷ 1 ∷ 1 ∷ 1 ∷ 0 ∷ 1
+          ∷ 1 ∷ 2 ∷ 1 ∷ 1 ∷ 1 ∷ 2 ∷ 0 ∷ 1
+          ∷ 1 ∷ 3 ∷ 1 ∷ 1 ∷ 1 ∷ 3 ∷ 0 ∷ 1
+          ∷ [];
+      dayTypes = 1 ∷ [];
+    }
+
+-- readings just before, within and just after the first window, and in the day's last period
+abbrev pub windowCalls : List Call
+windowCalls =
+    registers exampleMpan 0
+    ∷ sends exampleMpan 0 1 (half 600 10 (half 630 20 (half 720 40 (half 750 80 (half 1440 160 [])))))
+    ∷ run 0
+    ∷ readTotals 0 0
+    ∷ readTotals 0 1
+    ∷ readTotals 0 2
+    ∷ []
+
+abbrev pub offAndPeak : ℕ → ℕ → Answer
+offAndPeak off peak =
+    totalsAre
+    (record { tot = 310; off = off; peak = peak; tot7 = 310; off7 = off; peak7 = peak; days7 = 1; ann = 113150; days = 1; fresh = 5; blanks = 43 })
+
+abbrev pub windowAnswers : List Answer
+windowAnswers = accepted ∷ accepted ∷ moved 15 ∷ offAndPeak 60 250 ∷ offAndPeak 160 150 ∷ offAndPeak 310 0 ∷ []
+
+-- an opening with these minutes and one category with window w is answered so, accepted with number 0
+unfoldable pub opensWith : ℕ → List ℕ → ℕ → ℕ → ℕ → Bool
+opensWith duration minutes w number place =
+    let given =
+    openingCheck
+    (record { duration = duration; meters = 1; windowMinutes = minutes; categoryBytes = 1 ∷ 1 ∷ 1 ∷ 1 ∷ 1 ∷ w ∷ 0 ∷ 1 ∷ []; dayTypes = 1 ∷ [] })
+    false in
+    eqb (given .number) number && eqb (given .place) place
+
+-- a window over and over
+unfoldable pub repeated : ℕ → List ℕ
+repeated zero = []
+repeated (suc n) = 0 ∷ 30 ∷ repeated n
+
+unfoldable pub windowList : Bool
+windowList =
+    opensWith 30 [] 0 0 0 && opensWith 30 [] 1 4 1
+    && opensWith 15 (45 ∷ 75 ∷ []) 1 0 0 && opensWith 30 (45 ∷ 75 ∷ []) 1 19 1
+    && opensWith 30 (0 ∷ 420 ∷ 450 ∷ 450 ∷ []) 1 19 2
+    && opensWith 30 (0 ∷ 420 ∷ 30 ∷ []) 1 19 2
+    && opensWith 30 (0 ∷ 30 ∷ 60 ∷ 30 ∷ 0 ∷ []) 1 19 2
+    && opensWith 30 (1410 ∷ 1440 ∷ 1440 ∷ 1470 ∷ []) 1 19 2
+    && opensWith 30 (repeated 8) 8 0 0 && opensWith 30 (repeated 9) 9 19 9 && opensWith 30 (repeated 20) 8 19 9
+    && opensWith 30 (0 ∷ 420 ∷ []) 2 4 1 && opensWith 60 (0 ∷ 45 ∷ []) 1 3 0
+
+pub window-list : windowList ≡ true
+unfolding windowList opensWith repeated openingCheck sizesValid durationKnown metersInRange categoriesInRange datesInRange between windowNumber windowValid categoryNumber categoryValid smartValid advancedValid recordAt anyBelow dayTypeNumber dayTypeValid firstFailed orElse
+window-list = refl
+
+-- ---- all nine, computed
 
 -- beside a draft of 96 entries that are 0 at first
 abbrev pub exampleDraft : List ℕ
@@ -612,8 +685,9 @@ pub worked-examples :
     × (ledgerRun (start senderOpening (draftOf senderOpening exampleDraft)) (leastLengths senderOpening) senderCalls ≡ senderAnswers)
     × (ledgerRun (start remainderOpening (draftOf remainderOpening exampleDraft)) (leastLengths remainderOpening) remainderCalls ≡ remainderAnswers)
     × (ledgerRun (start previewOpening (draftOf previewOpening exampleDraft)) (leastLengths previewOpening) previewCalls ≡ previewAnswers)
-unfolding ledgerRun start ledgerAnswer ledgerAfter answer left settingsShort metersShort cellsShort anyShort meterWith changed heldFrom ledgerRegistrationCheck registerIn afterRegistration ledgerReceptionCheck setOf at afterReception cellBy cellAt isRun ledgerRunCheck pictureOf afterRun movedBetween ledgerTotalsCheck ledgerCellCheck totalsAt settingsLength metersLength readingsLength cellsLength firstFailed momentOf startOf starts later latestFrom inForce appointed notAfterLast meterNumber registrationCheck bodyCheck inForceCheck receptionCheck isReading readingIn runCheck readCheck totalsInRange cellInRange movedCell overRunDates totOn offOn peakOn totalsOn categoryAt mpanValid checkDigit weightedSum product digit weights sumBelow average remainder annual recordNumber periodEnding periodsPerDay liesWithin windowStart windowEnd between sameCell blank cellOn cellOf cellFrom latest afterDate freshIn freshOf isEnough total isSmart sameFamily anyBelow endMinute quality wattHoursAt carried netCheck listsShort mayNet ledgerNetCheck sideAt netAt onSide chosenBelow sideOf sumOver anyOf signedSum netPeriod markOf netTot netTot7 netOn tabulate orElse firstNumber callNumber fieldsNumber knownNumber headerNumber recordNumberIf contentNumber bandCheck ledgerBandCheck bandAt bandOn bandDates inBand dayTypeValid fillCheck ledgerFillCheck shapeAt weightAt fillAt isOptedOutShape shapeCategory firstFrom weightBy mayFill comesBefore countBefore wholePart remainderOf leftOver filledValue filledValues daysLength daysShort ledgerCoverageCheck coverageAt freshAmong blanksAmong originOf oldestAmong coverageOn draftLength draftShort previewCheck rowCheck ledgerPreviewCheck afterPreview ledgerRowCheck rowShown rowWith cellOfEntry flagNumberOf
-worked-examples = (refl, refl, refl, refl, refl, refl, refl, refl)
+    × (ledgerRun (start windowOpening (draftOf windowOpening exampleDraft)) (leastLengths windowOpening) windowCalls ≡ windowAnswers)
+unfolding ledgerRun start ledgerAnswer ledgerAfter answer left settingsShort metersShort cellsShort anyShort meterWith changed heldFrom ledgerRegistrationCheck registerIn afterRegistration ledgerReceptionCheck setOf at afterReception cellBy cellAt isRun ledgerRunCheck pictureOf afterRun movedBetween ledgerTotalsCheck ledgerCellCheck totalsAt settingsLength metersLength readingsLength cellsLength firstFailed momentOf startOf starts later latestFrom inForce appointed notAfterLast meterNumber registrationCheck bodyCheck inForceCheck receptionCheck isReading readingIn runCheck readCheck totalsInRange cellInRange movedCell overRunDates totOn offOn peakOn totalsOn categoryAt mpanValid checkDigit weightedSum product digit weights sumBelow average remainder annual recordNumber periodEnding periodsPerDay liesWithin windowAt between sameCell blank cellOn cellOf cellFrom latest afterDate freshIn freshOf isEnough total isSmart sameFamily anyBelow endMinute quality wattHoursAt carried netCheck listsShort mayNet ledgerNetCheck sideAt netAt onSide chosenBelow sideOf sumOver anyOf signedSum netPeriod markOf netTot netTot7 netOn tabulate orElse firstNumber callNumber fieldsNumber knownNumber headerNumber recordNumberIf contentNumber bandCheck ledgerBandCheck bandAt bandOn bandDates inBand dayTypeValid fillCheck ledgerFillCheck shapeAt weightAt fillAt isOptedOutShape shapeCategory firstFrom weightBy mayFill comesBefore countBefore wholePart remainderOf leftOver filledValue filledValues daysLength daysShort ledgerCoverageCheck coverageAt freshAmong blanksAmong originOf oldestAmong coverageOn draftLength draftShort previewCheck rowCheck ledgerPreviewCheck afterPreview ledgerRowCheck rowShown rowWith cellOfEntry flagNumberOf
+worked-examples = (refl, refl, refl, refl, refl, refl, refl, refl, refl)
 
 -- ---- the same on the engine, from its opening on
 
@@ -626,7 +700,7 @@ abbrev pub EngineAnswers : Opening → List Call → List Answer → Type 0
 EngineAnswers a calls answers =
     (p : Parts) → lengthsOf p ≡ leastLengths a → p .draft ≡ exampleDraft → Accepts p a × (storeAnswers (openedParts p a) (lentLeast a calls) ≡ answers)
 
--- all eight examples
+-- all nine examples
 abbrev pub WorkedOnEngine : Type 0
 WorkedOnEngine =
     EngineAnswers exampleOpening exampleCalls exampleAnswers
@@ -637,3 +711,4 @@ WorkedOnEngine =
     × EngineAnswers senderOpening senderCalls senderAnswers
     × EngineAnswers remainderOpening remainderCalls remainderAnswers
     × EngineAnswers previewOpening previewCalls previewAnswers
+    × EngineAnswers windowOpening windowCalls windowAnswers

@@ -10,7 +10,7 @@ use lib.IntN.{ℤ, pos, negsuc}
 use lib.ListN.{getD}
 use Rattle.metering.specs.Sum.{sumBelow}
 use Rattle.metering.specs.Average.{average, remainder, annual}
-use Rattle.metering.specs.Calendar.{liesWithin, windowStart, windowEnd}
+use Rattle.metering.specs.Calendar.{liesWithin}
 
 -- ---- categories (000, 3.1; 003 for Advanced)
 
@@ -39,6 +39,21 @@ categoryAt bytes c =
 
 unfoldable pub isSmart : Category → Bool
 isSmart a = eqb (a .segment) 1
+
+-- an off-peak window, from its start to its end minute
+pub record Window : Type 0 where
+  pub start : ℕ
+  pub end : ℕ
+
+-- the window that a category names by its place in a list of minutes, start, end, start, end and so on (house; 000, 11.1 has two windows).
+-- 0 names none, which is empty
+unfoldable pub windowAt : List ℕ → ℕ → Window
+windowAt minutes zero = record { start = 0; end = 0 }
+windowAt minutes (suc k) = record { start = getD minutes (2 * k) 0; end = getD minutes (2 * k + 1) 0 }
+
+-- METH005's two: 00:00 to 07:00 and 00:30 to 07:30 (000, 11.1)
+abbrev pub methodWindows : List ℕ
+methodWindows = 0 ∷ 420 ∷ 30 ∷ 450 ∷ []
 
 -- the paper's "family": Smart categories alike in domestic, quantity and connection; the GSP group and all else may differ (000, 6.1)
 unfoldable pub sameFamily : Category → Category → Bool
@@ -234,15 +249,15 @@ freshAmong periods cells = sumBelow periods (λ k. isFresh (cells k .flag))
 unfoldable pub blanksAmong : ℕ → (ℕ → Cell) → ℕ
 blanksAmong periods cells = sumBelow periods (λ k. isBlank (cells k .flag))
 
--- for one category: its window w, the period duration, P, which dates are run, and its cell on a date and period
-module _ (duration periods w : ℕ) (isRun : ℕ → Bool) (cell : ℕ → ℕ → Cell) where
+-- for one category: the period duration, P, its window by number and by minutes, which dates are run, and its cell on a date and period
+module _ (duration periods w : ℕ) (window : Window) (isRun : ℕ → Bool) (cell : ℕ → ℕ → Cell) where
   -- TOT: all values of the date (000, 10.1)
   unfoldable pub totOn : ℕ → ℕ
   totOn d = sumBelow periods (λ k. cell d (suc k) .value)
 
-  -- OFF: the periods that lie wholly in the window (000, 11.1); none does in window 0
+  -- OFF: the periods that lie wholly in the window (000, 11.1); none does in an empty one
   unfoldable pub offOn : ℕ → ℕ
-  offOn d = sumBelow periods (λ k. cond (liesWithin duration (windowStart w) (windowEnd w) (suc k)) (cell d (suc k) .value) 0)
+  offOn d = sumBelow periods (λ k. cond (liesWithin duration (window .start) (window .end) (suc k)) (cell d (suc k) .value) 0)
 
   -- PEAK: TOT less OFF (000, 12.1); with window 0 it is 0 as well (house)
   unfoldable pub peakOn : ℕ → ℕ

@@ -1,9 +1,9 @@
 -- The least length of each lent part of the store, in M meters, C categories, T dates and P periods.
 use Prim.Native.Nat.{ℕ, _+_, _*_}
 
--- the settings' header: four numbers of two bytes
+-- the settings' header: four numbers of two bytes, and eight windows of two such numbers
 abbrev pub headerLength : ℕ
-headerLength = 8
+headerLength = 40
 
 -- the header, eight bytes a category record, one byte a day type
 unfoldable pub settingsLength : ℕ → ℕ → ℕ

@@ -10,17 +10,18 @@ use lib.IntN.{ℤ, pos, negsuc, _-ℤ_}
 use lib.ListN.{length, getD, set, drop}
 use lib.Seq.{sets}
 use lib.Signed.{mag}
-use Rattle.metering.specs.Range.{metersInRange, categoriesInRange, datesInRange}
+use Rattle.metering.specs.Range.{between, metersInRange, categoriesInRange, datesInRange}
 use Rattle.metering.specs.Sum.{sumBelow}
 use Rattle.metering.specs.Average.{annual}
-use Rattle.metering.specs.Calendar.{durationKnown, periodsPerDay, liesWithin, windowStart, windowEnd}
-use Rattle.ledger.specs.Method.{Category, categoryAt, Flag, A, D, E, N, flagNumber, Cell, freshAmong, blanksAmong, oldestAmong, Totals, Coverage}
+use Rattle.metering.specs.Calendar.{durationKnown, periodsPerDay, liesWithin}
+use Rattle.ledger.specs.Method.{Category, categoryAt, Window, Flag, A, D, E, N, flagNumber, Cell, freshAmong, blanksAmong, oldestAmong, Totals, Coverage}
 use Rattle.ledger.specs.Opening.{Opening, categories, dates}
 use Rattle.ledger.specs.Table.{firstFrom}
 use Rattle.ledger.specs.Checks.{Registration}
 use Rattle.ledger.specs.Sizes.{headerLength, settingsLength, metersLength, readingsLength, cellsLength, daysLength}
 
--- ---- settings: the header, which is duration, M, C and T, two bytes each, big-endian; the category records; the day types
+-- ---- settings: the header, which is duration, M, C, T and the minutes of eight windows, two bytes each, big-endian; the category records; the
+-- day types
 
 unfoldable pub word : List ℕ → ℕ → ℕ
 word s k = 256 * getD s (2 * k) 0 + getD s (2 * k + 1) 0
@@ -28,9 +29,15 @@ word s k = 256 * getD s (2 * k) 0 + getD s (2 * k + 1) 0
 unfoldable pub wordBytes : ℕ → List ℕ
 wordBytes n = n / 256 ∷ n % 256 ∷ []
 
+-- the first n minutes of windows, 0 where there are no more
+unfoldable pub minuteBytes : ℕ → List ℕ → List ℕ
+minuteBytes zero minutes = []
+minuteBytes (suc n) minutes = minuteBytes n minutes ++ wordBytes (getD minutes n 0)
+
 -- the header that an opening writes; below, how each of its numbers is read
 unfoldable pub headerBytes : Opening → List ℕ
-headerBytes a = wordBytes (a .duration) ++ wordBytes (a .meters) ++ wordBytes (categories a) ++ wordBytes (dates a)
+headerBytes a =
+    wordBytes (a .duration) ++ wordBytes (a .meters) ++ wordBytes (categories a) ++ wordBytes (dates a) ++ minuteBytes 16 (a .windowMinutes)
 
 unfoldable pub durationOf : List ℕ → ℕ
 durationOf s = word s 0
@@ -46,6 +53,11 @@ datesOf s = word s 3
 
 unfoldable pub periodsOf : List ℕ → ℕ
 periodsOf s = periodsPerDay (durationOf s)
+
+-- the window of this number: two of the header's numbers for each of 1 to 8, and an empty one for 0 and beyond
+unfoldable pub windowOf : List ℕ → ℕ → Window
+windowOf s w =
+    record { start = cond (between 1 8 w) (word s (2 * w + 2)) 0; end = cond (between 1 8 w) (word s (2 * w + 3)) 0 }
 
 -- how many cells a date has
 unfoldable pub rowLength : List ℕ → ℕ
@@ -237,17 +249,17 @@ dayEntryOf periods cells = dayEntry (freshAmong periods cells) (blanksAmong peri
 unfoldable pub totEntry : ℕ → ℕ
 totEntry tot = tot + 281474976710656
 
--- the values of a category's cells on a date, all of them or those in window w
+-- the values of a category's cells on a date, all of them or those in its window
 unfoldable pub totAmong : ℕ → (ℕ → Cell) → ℕ
 totAmong periods cells = sumBelow periods (λ k. cells k .value)
 
-unfoldable pub offAmong : ℕ → ℕ → ℕ → (ℕ → Cell) → ℕ
-offAmong duration w periods cells =
-    sumBelow periods (λ k. cond (liesWithin duration (windowStart w) (windowEnd w) (suc k)) (cells k .value) 0)
+unfoldable pub offAmong : ℕ → Window → ℕ → (ℕ → Cell) → ℕ
+offAmong duration window periods cells =
+    sumBelow periods (λ k. cond (liesWithin duration (window .start) (window .end) (suc k)) (cells k .value) 0)
 
-unfoldable pub dayEntriesOf : ℕ → ℕ → ℕ → (ℕ → Cell) → DayEntries
-dayEntriesOf duration w periods cells =
-    record { day = dayEntryOf periods cells; tot = totEntry (totAmong periods cells); off = offAmong duration w periods cells }
+unfoldable pub dayEntriesOf : ℕ → Window → ℕ → (ℕ → Cell) → DayEntries
+dayEntriesOf duration window periods cells =
+    record { day = dayEntryOf periods cells; tot = totEntry (totAmong periods cells); off = offAmong duration window periods cells }
 
 -- FRESH + 2 ^ 16 BLANK of a day, and each of them
 unfoldable pub countsOf : ℕ → ℕ

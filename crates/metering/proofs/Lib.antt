@@ -1,2 +1,3 @@
--- Laws of signed numbers that several crates cite.
+-- Laws of signed numbers that several crates cite, and laws of windows.
 pub mod SignedLaws
+pub mod WindowLaws

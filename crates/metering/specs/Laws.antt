@@ -1,18 +1,18 @@
 -- Laws of the definitions, for the layers above: what they may use without opening a definition.
-use Prim.Native.Nat.{ℕ, zero, suc, _+_, _*_, _%_, _-_, _≤_, _<_}
+use Prim.Native.Nat.{ℕ, zero, suc, _+_, _*_, _/_, _%_, _-_, _≤_, _<_}
 use mathlib.Core.Path.{_≡_, refl, sym, ap, _∙_}
 use mathlib.Core.Logic.{_↔_, _≢_, _⊎_, inl, inr, ⊎-elim}
-use mathlib.Core.Bool.{Bool, true, false, not, _&&_, and-eq-true-iff}
-use native.Mathlib.Nat.{mul-div-le, lt-mul-div-succ, div-eq-of-lt-le, div-lt-iff-lt-mul, div-one, div-add-mod', div-mul-le-self, le-div-iff-mul-le, le-trans, add-zero, mul-pos, mul-mod-left, mul-div-cancel, le-of-mul-le-mul-right, mul-le-mul-left, mul-le-mul-right}
+use mathlib.Core.Bool.{Bool, true, false, not, _&&_, and-eq-true-iff, and-false}
+use native.Mathlib.Nat.{mul-div-le, lt-mul-div-succ, div-eq-of-lt-le, div-lt-iff-lt-mul, div-one, div-add-mod', div-mul-le-self, le-div-iff-mul-le, le-trans, add-zero, mul-pos, mul-mod-left, mul-div-cancel, le-of-mul-le-mul-right, mul-le-mul-left, mul-le-mul-right, mul-lt-mul-of-pos-right}
 use native.Mathlib.Omega.{arith}
 use lib.ListN.{getD}
-use lib.Dec.{eqb, leb, ltb, leb·zero, leb→le, le→leb, ltb→lt, lt→ltb}
+use lib.Dec.{eqb, leb, ltb, leb→le, le→leb, ltb→lt, lt→ltb}
 use lib.IntN.{ℤ, pos, negℤ, subℕ, _+ℤ_, _-ℤ_, +ℤ-comm, +ℤ-negℤ-cancel, -ℤ-+ℤ-cancel}
 use lib.Signed.{mag, _≤ℤ_, _<ℤ_}
 use borrow.Table.Steps.{cases}
 use borrow.Author.Tests.{leb-true, le-leb, lt-leb, ltb-true, ltb-false, lt-ltb, le-ltb, eqb-true, eq-eqb, ne-eqb, not-true, not-false}
 use Rattle.metering.specs.Average.{average, remainder, Rounded, annual}
-use Rattle.metering.specs.Calendar.{durationKnown, periodsPerDay, periodEnding, liesWithin, windowStart, windowEnd}
+use Rattle.metering.specs.Calendar.{durationKnown, periodsPerDay, periodEnding, liesWithin, windowValid}
 use Rattle.metering.specs.Sum.{sumBelow, sumBelow-le}
 use Rattle.metering.specs.Mpan.{weights, digit, product, weightedSum, mpanValid}
 use Rattle.metering.specs.Range.{between}
@@ -233,22 +233,35 @@ liesWithin-periods d low high j hd hj = (
       liesWithin-true d (low * d) (high * d) j .1 (mul-le-mul-right d first, mul-le-mul-right d (h .1)),
 )
 
-pub window-1-at-30 : (j : ℕ) → 1 ≤ j → (liesWithin 30 (windowStart 1) (windowEnd 1) j ≡ true) ↔ ((1 ≤ j) × (j ≤ 14))
-unfolding windowStart windowEnd
-window-1-at-30 j h = liesWithin-periods 30 0 14 j (omega arith) h
+-- a window that may be asked for starts and ends with a period, so its periods are those from start / d + 1 to end / d
+pub window-valid-is : (d start end : ℕ) → (windowValid d start end ≡ true) ↔ ((start % d ≡ 0) × (end % d ≡ 0) × (start < end) × (end ≤ 1440))
+unfolding windowValid
+window-valid-is d start end = (
+  λ e. let p = and-eq-true-iff _ _ .0 e in
+      let q = and-eq-true-iff _ _ .0 (p .0) in
+      let r = and-eq-true-iff _ _ .0 (q .0) in
+      (eqb-true _ _ (r .0), eqb-true _ _ (r .1), ltb-true _ _ (q .1), leb-true _ _ (p .1)),
+  λ h. rw (h .0, h .1, lt-ltb start end (h .2), le-leb end 1440 (h .3)),
+)
 
-pub window-2-at-30 : (j : ℕ) → 1 ≤ j → (liesWithin 30 (windowStart 2) (windowEnd 2) j ≡ true) ↔ ((2 ≤ j) × (j ≤ 15))
-unfolding windowStart windowEnd
-window-2-at-30 j h = liesWithin-periods 30 1 15 j (omega arith) h
+pub whole-periods : (d minute : ℕ) → minute % d ≡ 0 → minute / d * d ≡ minute
+whole-periods d minute h = sym (add-zero _) ∙ rw h at (div-add-mod' minute d)
 
-pub window-1-at-15 : (j : ℕ) → 1 ≤ j → (liesWithin 15 (windowStart 1) (windowEnd 1) j ≡ true) ↔ ((1 ≤ j) × (j ≤ 28))
-unfolding windowStart windowEnd
-window-1-at-15 j h = liesWithin-periods 15 0 28 j (omega arith) h
+pub window-periods : (d start end j : ℕ) → 0 < d → windowValid d start end ≡ true → 1 ≤ j →
+    (liesWithin d start end j ≡ true) ↔ ((start / d + 1 ≤ j) × (j ≤ end / d))
+window-periods d start end j hd valid hj =
+    let h = window-valid-is d start end .0 valid in
+    rw (whole-periods d start (h .0), whole-periods d end (h .1)) at (liesWithin-periods d (start / d) (end / d) j hd hj)
 
-pub window-2-at-15 : (j : ℕ) → 1 ≤ j → (liesWithin 15 (windowStart 2) (windowEnd 2) j ≡ true) ↔ ((3 ≤ j) × (j ≤ 30))
-unfolding windowStart windowEnd
-window-2-at-15 j h = liesWithin-periods 15 2 30 j (omega arith) h
+-- of two windows, one of which ends at or before the other's start, no period lies in both
+pub windows-apart : (d start end later-start later-end j : ℕ) → 0 < d → 1 ≤ j → end ≤ later-start → liesWithin d start end j ≡ true →
+    liesWithin d later-start later-end j ≡ false
+windows-apart d start end later-start later-end j hd hj apart e =
+    let first = liesWithin-true d start end j .0 e in
+    let before : (j - 1) * d < j * d = mul-lt-mul-of-pos-right (omega arith) hd in
+    unfold liesWithin in rw (lt-leb later-start ((j - 1) * d) (omega arith))
 
-pub window-0-empty : (d j : ℕ) → 0 < d → 1 ≤ j → liesWithin d (windowStart 0) (windowEnd 0) j ≡ false
-unfolding liesWithin windowStart windowEnd
-window-0-empty d j hd hj = rw (leb·zero, lt-leb (j * d) 0 (mul-pos hj hd))
+-- no period ends at minute 0
+pub empty-window : (d start j : ℕ) → 0 < d → 1 ≤ j → liesWithin d start 0 j ≡ false
+unfolding liesWithin
+empty-window d start j hd hj = rw (lt-leb (j * d) 0 (mul-pos hj hd)) (and-false (leb start ((j - 1) * d)))

@@ -21,11 +21,12 @@ datesInRange t = between 1 800 t
 unfoldable pub dayTypeValid : ℕ → Bool
 dayTypeValid b = between 1 16 b
 
--- the first six of a category record's eight bytes: segment, GSP group, domestic, quantity, connection, window
-unfoldable pub smartValid : List ℕ → Bool
-smartValid r =
+-- the first six of a category record's eight bytes: segment, GSP group, domestic, quantity, connection, and a window of so many, by its place,
+-- or 0
+unfoldable pub smartValid : ℕ → List ℕ → Bool
+smartValid windows r =
     eqb (getD r 0 0) 1 && between 1 14 (getD r 1 0) && between 1 2 (getD r 2 0) && between 1 2 (getD r 3 0) && between 1 4 (getD r 4 0)
-    && between 0 2 (getD r 5 0)
+    && between 0 windows (getD r 5 0)
 
 -- Advanced has group, domestic and window 0
 unfoldable pub advancedValid : List ℕ → Bool
@@ -34,8 +35,8 @@ advancedValid r =
     && between 0 0 (getD r 5 0)
 
 -- the last two bytes, the de-minimis count, may be anything
-unfoldable pub categoryValid : List ℕ → Bool
-categoryValid r = smartValid r || advancedValid r
+unfoldable pub categoryValid : ℕ → List ℕ → Bool
+categoryValid windows r = smartValid windows r || advancedValid r
 
 -- what the two rules have in common, for the function that walks the fields: low is the least group and domestic, the others are the most
 unfoldable pub fieldsBetween : ℕ → ℕ → ℕ → ℕ → List ℕ → Bool

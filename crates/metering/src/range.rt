@@ -65,14 +65,14 @@ fn fields_between(category: &[u8], low: u64, group: u64, domestic: u64, window: 
     field_between(category, 5, 0, window)
 }
 
-fn smart_valid(category: &[u8]) -> bool
+fn smart_valid(category: &[u8], windows: u64) -> bool
     requires { ⌜ length (now category) ≡ 8 ⌝ }
-    ensures { λ r. ⌜ r ≡ smartValid (now (category .entry)) ⌝ }
+    ensures { λ r. ⌜ r ≡ smartValid windows (now (category .entry)) ⌝ }
 {
     if category[0] != 1 {
         return false;
     }
-    fields_between(category, 1, 14, 2, 2)
+    fields_between(category, 1, 14, 2, windows)
 }
 
 fn advanced_valid(category: &[u8]) -> bool
@@ -85,12 +85,12 @@ fn advanced_valid(category: &[u8]) -> bool
     fields_between(category, 0, 0, 0, 0)
 }
 
-// The eight bytes of a category record.
-pub fn category_valid(category: &[u8]) -> bool
+// The eight bytes of a category record, of an opening with so many windows.
+pub fn category_valid(category: &[u8], windows: u64) -> bool
     requires { ⌜ length (now category) ≡ 8 ⌝ }
-    ensures { λ r. ⌜ r ≡ categoryValid (now (category .entry)) ⌝ }
+    ensures { λ r. ⌜ r ≡ categoryValid windows (now (category .entry)) ⌝ }
 {
-    if smart_valid(category) {
+    if smart_valid(category, windows) {
         return true;
     }
     advanced_valid(category)

@@ -1,4 +1,4 @@
-// A case is a line of 70 bytes: a letter for its kind, then four operands of 16 hexadecimal digits, each after a blank.
+// A case is a line of 53 bytes: a letter for its kind, then three operands of 16 hexadecimal digits, each after a blank.
 ghost use Prim.Native.Nat.{_<_};
 
 fn digit(c: u8) -> u64
@@ -11,8 +11,8 @@ fn digit(c: u8) -> u64
 }
 
 // The remainder, by 16 to the 15th, changes nothing: 16 digits fit. It spares the proof a bound on the digits passed.
-pub fn operand(line: &[u8; 70], place: usize) -> u64
-    requires { ⌜ place < 4 ⌝ }
+pub fn operand(line: &[u8; 53], place: usize) -> u64
+    requires { ⌜ place < 3 ⌝ }
 {
     let start = 2 + 17 * place;
     let mut value: u64 = 0;

@@ -6,17 +6,16 @@ use libc::STDIN_FILENO;
 
 // Reads one case and shows it. The answer is false where the input ends.
 fn run_case() -> bool {
-    let mut line = [0u8; 70];
+    let mut line = [0u8; 53];
     let got = io::read_full(STDIN_FILENO, &mut line);
-    if got < 70 {
+    if got < 53 {
         return false;
     }
     let kind = line[0];
     let first = case::operand(&line, 0);
     let second = case::operand(&line, 1);
     let third = case::operand(&line, 2);
-    let fourth = case::operand(&line, 3);
-    show::case(kind, first, second, third, fourth);
+    show::case(kind, first, second, third);
     true
 }
 

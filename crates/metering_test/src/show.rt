@@ -86,37 +86,20 @@ fn end_case(duration: u64, end: u64) {
     }
 }
 
-// With the duration as a literal the product of duration and period is linear, and needs no proof file.
-fn within_case(duration: u64, start: u64, end: u64, period: u64) {
-    text(b"within");
+// Whether two minutes may be a window, and the periods between them.
+fn window_case(duration: u64, start: u64, end: u64) {
+    text(b"window");
     number(duration);
     number(start);
     number(end);
-    number(period);
-    if period == 0 {
+    if !calendar::duration_known(duration) {
         text(b" outside");
         return;
     }
-    if duration == 15 {
-        if period <= 96 {
-            flag(calendar::lies_within(15, start, end, period));
-            return;
-        }
-    }
-    if duration == 30 {
-        if period <= 48 {
-            flag(calendar::lies_within(30, start, end, period));
-            return;
-        }
-    }
-    text(b" outside");
-}
-
-fn window_case(window: u64) {
-    text(b"window");
-    number(window);
-    number(calendar::window_start(window));
-    number(calendar::window_end(window));
+    flag(calendar::window_valid(duration, start, end));
+    let periods = calendar::periods_within(duration, start, end);
+    number(periods.first);
+    number(periods.count);
 }
 
 fn between_case(low: u64, high: u64, x: u64) {
@@ -136,9 +119,10 @@ fn range_case(x: u64) {
     flag(range::day_type_valid(x));
 }
 
-fn category_case(bytes: u64) {
+fn category_case(bytes: u64, windows: u64) {
     text(b"category ");
     io::print_hex(STDOUT_FILENO, bytes, 16);
+    number(windows);
     let category = [
         (bytes / 72057594037927936 % 256) as u8,
         (bytes / 281474976710656 % 256) as u8,
@@ -149,21 +133,20 @@ fn category_case(bytes: u64) {
         (bytes / 256 % 256) as u8,
         (bytes % 256) as u8,
     ];
-    flag(range::category_valid(&category));
+    flag(range::category_valid(&category, windows));
 }
 
-pub fn case(kind: u8, a: u64, b: u64, c: u64, d: u64) {
+pub fn case(kind: u8, a: u64, b: u64, c: u64) {
     match kind {
         b'm' => mpan_case(a),
         b'a' => average_case(a, b),
         b'y' => annual_case(a, b),
         b'd' => duration_case(a),
         b'e' => end_case(a, b),
-        b'l' => within_case(a, b, c, d),
-        b'w' => window_case(a),
+        b'w' => window_case(a, b, c),
         b'b' => between_case(a, b, c),
         b'r' => range_case(a),
-        b'c' => category_case(a),
+        b'c' => category_case(a, b),
         _ => text(b"unknown"),
     }
     text(b"\n");

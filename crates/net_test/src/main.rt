@@ -8,7 +8,7 @@ use session::Stage;
 fn main() {
     let mut category_records = [0u8; 96];
     let mut day_types = [0u8; 12];
-    let mut settings = [0u8; 116];
+    let mut settings = [0u8; 148];
     let mut meters = [0u64; 492];
     let mut readings = [0u64; 7056];
     let mut cells = [0u64; 6912];

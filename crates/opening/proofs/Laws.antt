@@ -4,8 +4,8 @@ use mathlib.Core.Path.{_≡_, refl, sym, ap, _∙_}
 use mathlib.Core.Bool.{Bool, true, false, cond}
 use mathlib.Core.List.{List}
 use lib.ListN.{length}
-use Rattle.ledger.specs.Opening.{Opening, categories, dates}
-use Rattle.ledger.specs.Checks.{verdict, firstFailed, orElse, categoryNumber, dayTypeNumber, sizesValid, openingCheck}
+use Rattle.ledger.specs.Opening.{Opening, windows, windowPlaces, categories, dates}
+use Rattle.ledger.specs.Checks.{verdict, firstFailed, orElse, windowNumber, categoryNumber, dayTypeNumber, sizesValid, openingCheck}
 use Rattle.ledger.specs.Ledger.{Lengths, leastLengths, settingsShort, metersShort, anyShort, answer, accepted, refused}
 use Rattle.ledger.specs.Calls.{openingVerdict, emptied, openedSettings, openedMeters, openedReadings, openedCells, openedDays, OpeningMeets}
 use Rattle.ledger.proofs.Verdicts.{left-none, left-some, accepted-none, refused-some, or-refused, or-accepted}
@@ -20,30 +20,41 @@ module _ (a : Opening) (short : Bool) where
 
   module _ (valid : sizesValid a ≡ true) where
     opening-next : openingCheck a short
-        ≡ orElse (firstFailed (categoryNumber (a .categoryBytes)) (categories a) 0) (orElse (firstFailed (dayTypeNumber (a .dayTypes)) (dates a) 0) (verdict (cond short 1 0)))
+        ≡ orElse (firstFailed (windowNumber (a .duration) (a .windowMinutes)) (windowPlaces a) 0)
+        (orElse (firstFailed (categoryNumber (windows a) (a .categoryBytes)) (categories a) 0) (orElse (firstFailed (dayTypeNumber (a .dayTypes)) (dates a) 0) (verdict (cond short 1 0))))
     unfolding openingCheck
     opening-next = rw valid
 
-    pub category-refused : (n p : ℕ) → refused n p ≡ answer (firstFailed (categoryNumber (a .categoryBytes)) (categories a) 0) accepted
+    pub window-refused : (n p : ℕ) → refused n p ≡ answer (firstFailed (windowNumber (a .duration) (a .windowMinutes)) (windowPlaces a) 0) accepted
         → refused n p ≡ answer (openingCheck a short) accepted
-    category-refused n p e = rw opening-next (or-refused _ _ n p e)
+    window-refused n p e = rw opening-next (or-refused _ _ n p e)
 
-    module _ (records : accepted ≡ answer (firstFailed (categoryNumber (a .categoryBytes)) (categories a) 0) accepted) where
-      pub day-type-refused : (n p : ℕ) → refused n p ≡ answer (firstFailed (dayTypeNumber (a .dayTypes)) (dates a) 0) accepted
+    module _ (windowed : accepted ≡ answer (firstFailed (windowNumber (a .duration) (a .windowMinutes)) (windowPlaces a) 0) accepted) where
+      pub category-refused : (n p : ℕ) → refused n p ≡ answer (firstFailed (categoryNumber (windows a) (a .categoryBytes)) (categories a) 0) accepted
           → refused n p ≡ answer (openingCheck a short) accepted
-      day-type-refused n p e = rw (opening-next, or-accepted _ _ records) (or-refused _ _ n p e)
+      category-refused n p e = rw (opening-next, or-accepted _ _ windowed) (or-refused _ _ n p e)
 
-      module _ (types : accepted ≡ answer (firstFailed (dayTypeNumber (a .dayTypes)) (dates a) 0) accepted) where
-        opening-last : openingCheck a short ≡ verdict (cond short 1 0)
-        opening-last = rw (opening-next, or-accepted _ _ records) (or-accepted _ _ types)
+      module _ (records : accepted ≡ answer (firstFailed (categoryNumber (windows a) (a .categoryBytes)) (categories a) 0) accepted) where
+        pub day-type-refused : (n p : ℕ) → refused n p ≡ answer (firstFailed (dayTypeNumber (a .dayTypes)) (dates a) 0) accepted
+            → refused n p ≡ answer (openingCheck a short) accepted
+        day-type-refused n p e = rw (opening-next, or-accepted _ _ windowed, or-accepted _ _ records) (or-refused _ _ n p e)
 
-        pub short-refused : short ≡ true → refused 1 0 ≡ answer (openingCheck a short) accepted
-        unfolding answer
-        short-refused e = rw (opening-last, e)
+        module _ (types : accepted ≡ answer (firstFailed (dayTypeNumber (a .dayTypes)) (dates a) 0) accepted) where
+          opening-last : openingCheck a short ≡ verdict (cond short 1 0)
+          opening-last = rw (opening-next, or-accepted _ _ windowed, or-accepted _ _ records) (or-accepted _ _ types)
 
-        pub opening-accepted : short ≡ false → accepted ≡ answer (openingCheck a short) accepted
-        unfolding answer
-        opening-accepted e = rw (opening-last, e)
+          pub short-refused : short ≡ true → refused 1 0 ≡ answer (openingCheck a short) accepted
+          unfolding answer
+          short-refused e = rw (opening-last, e)
+
+          pub opening-accepted : short ≡ false → accepted ≡ answer (openingCheck a short) accepted
+          unfolding answer
+          opening-accepted e = rw (opening-last, e)
+
+-- windows are no part of the sizes
+pub sizes-of : (a : Opening) (minutes : List ℕ) → sizesValid (record { duration = a .duration; meters = a .meters; windowMinutes = minutes; categoryBytes = a .categoryBytes; dayTypes = a .dayTypes }) ≡ sizesValid a
+unfolding sizesValid
+sizes-of a minutes = refl
 
 -- a length below its least is what the ledger calls short
 pub short-is : (a : Opening) (n : Lengths) → anyBelowLeast n (leastLengths a) ≡ anyShort a n

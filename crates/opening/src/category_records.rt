@@ -1,4 +1,4 @@
-// The category records of an opening: each good, and none with the key of an earlier one.
+// The category records of an opening: each good, with so many windows to name, and none with the key of an earlier one.
 use metering::range;
 use store::outcome::Outcome;
 ghost use mathlib.Core.Path.{_≡_};
@@ -44,13 +44,13 @@ fn key_taken(records: &[u8], i: usize) -> bool
     false
 }
 
-fn category_number(records: &[u8], i: usize) -> u64
+fn category_number(windows: u64, records: &[u8], i: usize) -> u64
     requires { ⌜ 8 * i + 8 ≤ length (now records) ⌝ }
-    ensures { λ r. ⌜ r ≡ categoryNumber (now (records .entry)) i ⌝ }
+    ensures { λ r. ⌜ r ≡ categoryNumber windows (now (records .entry)) i ⌝ }
 {
     let start = 8 * i;
     let end = start + 8;
-    if !range::category_valid(&records[start..end]) {
+    if !range::category_valid(&records[start..end], windows) {
         return 4;
     }
     if key_taken(records, i) {
@@ -59,13 +59,13 @@ fn category_number(records: &[u8], i: usize) -> u64
     0
 }
 
-pub fn categories_checked(records: &[u8]) -> Outcome
-    ensures { λ r. ⌜ answerOf r ≡ answer (firstFailed (categoryNumber (now (records .entry))) (length (now (records .entry)) / 8) 0) accepted ⌝ }
+pub fn categories_checked(windows: u64, records: &[u8]) -> Outcome
+    ensures { λ r. ⌜ answerOf r ≡ answer (firstFailed (categoryNumber windows (now (records .entry))) (length (now (records .entry)) / 8) 0) accepted ⌝ }
 {
     let count = records.len() / 8;
     let mut i: usize = 0;
     while i < count {
-        let number = category_number(records, i);
+        let number = category_number(windows, records, i);
         if number != 0 {
             return Outcome::Refused {
                 number,

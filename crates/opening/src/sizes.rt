@@ -9,6 +9,7 @@ use settings::sizes::settings_length;
 use settings::writing::OpeningTerms;
 ghost use mathlib.Core.Path.{_≡_};
 ghost use mathlib.Core.Bool.{true};
+ghost use mathlib.Core.List.{[]};
 ghost use Rattle.settings.specs.Opening.{openingCall};
 ghost use Rattle.ledger.specs.Checks.{sizesValid};
 ghost use Rattle.ledger.specs.Ledger.{leastLengths};
@@ -23,8 +24,9 @@ pub struct Lengths {
     pub days: u64,
 }
 
+// Windows are no part of it.
 pub fn sizes_valid(terms: OpeningTerms, category_records: &[u8], day_types: &[u8]) -> bool
-    ensures { λ r. ⌜ r ≡ sizesValid (openingCall terms (now («category_records» .entry)) (now («day_types» .entry))) ⌝ }
+    ensures { λ r. ⌜ r ≡ sizesValid (openingCall terms [] (now («category_records» .entry)) (now («day_types» .entry))) ⌝ }
 {
     if !calendar::duration_known(terms.duration) {
         return false;
@@ -43,8 +45,8 @@ pub fn sizes_valid(terms: OpeningTerms, category_records: &[u8], day_types: &[u8
 
 // What an opening of these sizes asks of each part.
 pub fn least_lengths(terms: OpeningTerms, category_records: &[u8], day_types: &[u8]) -> Lengths
-    requires { ⌜ sizesValid (openingCall terms (now «category_records») (now «day_types»)) ≡ true ⌝ }
-    ensures { λ r. ⌜ lengthsMeant r ≡ leastLengths (openingCall terms (now («category_records» .entry)) (now («day_types» .entry))) ⌝ }
+    requires { ⌜ sizesValid (openingCall terms [] (now «category_records») (now «day_types»)) ≡ true ⌝ }
+    ensures { λ r. ⌜ lengthsMeant r ≡ leastLengths (openingCall terms [] (now («category_records» .entry)) (now («day_types» .entry))) ⌝ }
 {
     let periods = calendar::periods_per_day(terms.duration);
     let categories = (category_records.len() / 8) as u64;

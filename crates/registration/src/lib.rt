@@ -21,7 +21,7 @@ ghost use lib.Dec.{leb};
 ghost use lib.ListN.{length};
 ghost use Rattle.store.specs.Outcome.{answerOf};
 ghost use Rattle.registration.specs.Registration.{registrationCall};
-ghost use Rattle.ledger.specs.Sizes.{metersLength, readingsLength};
+ghost use Rattle.ledger.specs.Sizes.{headerLength, metersLength, readingsLength};
 ghost use Rattle.ledger.specs.Checks.{fieldsNumber, knownNumber, meterNumber, anyBelow};
 ghost use Rattle.ledger.specs.Store.{metersOf, categoriesOf, datesOf, slotOf, knownAt, registrationsAt, isHeldAt};
 ghost use Rattle.ledger.specs.Ledger.{answer, accepted, left};
@@ -29,7 +29,7 @@ ghost use Rattle.ledger.specs.Calls.{metersUnready, slotFor, registrationsFor, 
 
 // 16: a field out of range.
 fn fields_number(settings: &[u8], start: u64, minute: u64, category: u64, status: u64) -> u64
-    requires { ⌜ 8 ≤ length (now settings) ⌝ }
+    requires { ⌜ headerLength ≤ length (now settings) ⌝ }
     ensures { λ r. ⌜ r ≡ fieldsNumber (datesOf (now (settings .entry))) (categoriesOf (now (settings .entry))) start minute category status ⌝ }
 {
     if 1439 < minute {

@@ -9,7 +9,8 @@ ghost use mathlib.Core.Bool.{true};
 ghost use Prim.Native.Nat.{_+_, _*_, _<_, _≤_};
 ghost use lib.ListN.{length};
 ghost use Rattle.ledger.specs.Sizes.{headerLength};
-ghost use Rattle.ledger.specs.Store.{word, durationOf, metersOf, categoriesOf, datesOf, periodsOf, isOpened, settingsReady};
+ghost use Rattle.ledger.specs.Store.{word, durationOf, metersOf, categoriesOf, datesOf, periodsOf, windowOf, isOpened, settingsReady};
+ghost use Rattle.settings.specs.Window.{windowMeant};
 
 fn word(settings: &[u8], k: u64) -> u64
     requires { ⌜ 2 * k + 1 < length (now settings) ⌝ }
@@ -44,6 +45,26 @@ pub fn date_count(settings: &[u8]) -> u64
     ensures { λ r. ⌜ r ≡ datesOf (now (settings .entry)) ⌝ }
 {
     word(settings, 3)
+}
+
+// An off-peak window, from its start to its end minute.
+pub struct Window {
+    pub start: u64,
+    pub end: u64,
+}
+
+// By its number; 0 is none, and so is what is past the eighth.
+pub fn window_of(settings: &[u8], number: u64) -> Window
+    requires { ⌜ headerLength ≤ length (now settings) ⌝ }
+    ensures { λ r. ⌜ windowMeant r ≡ windowOf (now (settings .entry)) number ⌝ }
+{
+    if !range::between(1, 8, number) {
+        return Window { start: 0, end: 0 };
+    }
+    Window {
+        start: word(settings, 2 * number + 2),
+        end: word(settings, 2 * number + 3),
+    }
 }
 
 fn opened(settings: &[u8]) -> bool

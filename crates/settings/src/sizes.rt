@@ -4,7 +4,7 @@ ghost use Prim.Native.Nat.{_≤_};
 ghost use Rattle.ledger.specs.Sizes.{settingsLength, metersLength, readingsLength, cellsLength, daysLength};
 
 // Of the settings, before the category records.
-pub const HEADER_LENGTH: u64 = 8;
+pub const HEADER_LENGTH: u64 = 40;
 
 pub fn settings_length(categories: u64, dates: u64) -> u64
     requires { ⌜ (categories ≤ 64) × (dates ≤ 800) ⌝ }

@@ -4,7 +4,7 @@ use commands::Capacity;
 fn main() {
     let mut category_records = [0u8; 24];
     let mut day_types = [0u8; 8];
-    let mut settings = [0u8; 40];
+    let mut settings = [0u8; 72];
     let mut meters = [0u64; 164];
     let mut readings = [0u64; 1568];
     let mut cells = [0u64; 1152];

@@ -5,7 +5,7 @@ use commands::Capacity;
 fn main() {
     let mut category_records = [0u8; 64];
     let mut day_types = [0u8; 370];
-    let mut settings = [0u8; 442];
+    let mut settings = [0u8; 474];
     let mut meters = [0u64; 328];
     let mut readings = [0u64; 287120];
     let mut cells = [0u64; 284160];

@@ -7,7 +7,7 @@ use Rattle.jihoweka.proofs.jihoweka_open.Statement.{statement}
 use Rattle.jihoweka.proofs.jihoweka_open.Tie as tie
 
 abbrev start : tie.Else1 → tie.Start
-start c = c .before .before .before .before .before .before .before .before
+start c = c .before .before .before .before .before .before .before .before .before
 
 abbrev taken : tie.After-open → tie.Else1
 taken c = c .before .before .before .before .before .before
@@ -17,7 +17,7 @@ called c = c .before .before .before .before .before .before .before .before .be
 
 returns : tie.Need-returns
 returns c =
-    let a = c .before .before .before .before .before .before .before .before .args in (
+    let a = c .before .before .before .before .before .before .before .before .before .args in (
       list-short (now (a .fields)) _ (c .if1 .taken),
       record {
         settings = short-left (now (a .fields)) (now (a .settings)) _ (c .if1 .taken);
@@ -35,7 +35,7 @@ of-outcome-requires : tie.Need-of-outcome-requires
 of-outcome-requires c κs =
     let call = called c in
     let a = start (taken call) .args in
-    rw (call .open .ensures .answered) (opening-fits (now (a .settings)) (now (a .meters)) (now (a .readings)) (now (a .cells)) (now (a .days)) (record { duration = a .duration; meters = a .meter-count; categoryBytes = now (a .category-records); dayTypes = now (a .day-types) }))
+    rw (call .open .ensures .answered) (opening-fits (now (a .settings)) (now (a .meters)) (now (a .readings)) (now (a .cells)) (now (a .days)) (record { duration = a .duration; meters = a .meter-count; windowMinutes = now (a .windows); categoryBytes = now (a .category-records); dayTypes = now (a .day-types) }))
 
 put-fields-requires : tie.Need-put-fields-requires
 put-fields-requires c κs = search needs

@@ -1,21 +1,23 @@
 -- `open` meets its contract: what was told of the checks is the verdict on the parts lent, and each part is written to its least length.
 use mathlib.Core.Path.{_≡_, sym, ap, _∙_}
+use mathlib.Core.List.{[]}
 use denote.Ref.{now}
 use Rattle.ledger.specs.Opening.{Opening}
 use Rattle.ledger.specs.Ledger.{answer, accepted}
 use Rattle.ledger.specs.Calls.{openingVerdict}
 use Rattle.ledger.proofs.Verdicts.{accepted-none}
+use Rattle.ledger.proofs.Windows.{minutes-low}
 use Rattle.ledger.proofs.Open.{OpeningAccepted, opening-accepted}
 use Rattle.store.specs.Outcome.{answerOf}
 use Rattle.settings.specs.Opening.{openingCall}
 use Rattle.opening.specs.Lengths.{lengthsMeant}
-use Rattle.opening.proofs.Laws.{opening-refused, opening-done, verdict-of}
+use Rattle.opening.proofs.Laws.{sizes-of, opening-refused, opening-done, verdict-of}
 use borrow.Author.Needs.{needs}
 use Rattle.opening.proofs.open.Statement.{statement}
 use Rattle.opening.proofs.open.Tie as tie
 
 abbrev start : tie.After-opening-checked → tie.Start
-start c = c .before .before .before .before .before .before .before .before
+start c = c .before .before .before .before .before .before .before .before .before
 
 abbrev begun : tie.After-enum-told → tie.Start
 begun c = start (c .before .before)
@@ -36,7 +38,7 @@ abbrev least : tie.After-empty-arg → tie.After-least-lengths
 least c = settings-written c .before .before
 
 abbrev call : tie.Start → Opening
-call s = let a = s .args in openingCall (a .terms) (now (a .category-records)) (now (a .day-types))
+call s = let a = s .args in openingCall (a .terms) (now (a .windows)) (now (a .category-records)) (now (a .day-types))
 
 told : (c : tie.After-enum-told) → let s = begun c in let a = s .args in
     accepted ≡ answer (openingVerdict (now (a .settings)) (now (a .meters)) (now (a .readings)) (now (a .cells)) (now (a .days)) (call s)) accepted
@@ -69,10 +71,10 @@ enum-told : tie.Need-enum-told
 enum-told c = search needs
 
 least-lengths-requires : tie.Need-least-lengths-requires
-least-lengths-requires c κs = passed c .sizes
+least-lengths-requires c κs = sizes-of (call (begun c)) [] ∙ passed c .sizes
 
 write-settings-requires : tie.Need-write-settings-requires
-write-settings-requires c κs = let p = passed (c .before .before) in (p .sizes, p .settings-long)
+write-settings-requires c κs = let p = passed (c .before .before) in (p .sizes, (minutes-low _ _ (p .windows-good), p .settings-long))
 
 empty-requires : tie.Need-empty-requires
 empty-requires c κs = let l = least c in rw (ap (λ n. n .meters) (l .least-lengths .ensures)) (passed (l .before) .meters-long)

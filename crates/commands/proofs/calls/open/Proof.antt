@@ -14,10 +14,10 @@ abbrev start : tie.After-parts-suffice → tie.Start
 start c = c .before .before .before .before .before .before .before .before .before .before .before
 
 abbrev then1 : tie.After-slice-known12 → tie.Then1
-then1 c = c .before .before .before .before .before .before .before .before .before .before .before .before .before .before .before .before .before .before .before .before
+then1 c = c .before .before .before .before .before .before .before .before .before .before .before .before .before .before .before .before .before .before .before .before .before
 
 abbrev else1 : tie.After-slice-known18 → tie.Else1
-else1 c = c .before .before .before .before .before .before .before .before .before .before .before .before .before .before .before .before .before .before .before .before
+else1 c = c .before .before .before .before .before .before .before .before .before .before .before .before .before .before .before .before .before .before .before .before .before
 
 abbrev asked : tie.After-parts-suffice → Opening
 asked c = let a = start c .args in openingOf (now (a .command)) (now (a .category-records)) (now (a .day-types))
@@ -33,6 +33,9 @@ opening-operands-requires c κs = search needs
 
 parts-suffice-requires : tie.Need-parts-suffice-requires
 parts-suffice-requires c κs = search needs
+
+slice-aggregate-open : tie.Need-slice-aggregate-open
+slice-aggregate-open c = search needs
 
 open-requires : tie.Need-open-requires
 open-requires c κs = search needs
@@ -61,7 +64,7 @@ same-length-6 c = search needs
 returns : tie.Need-returns
 returns c =
     let t = c .before .before .before .before .before .before .before .before .before .before .before .before .before .before in
-    let s = c .before .before .before .before .before .before .before .before .before .before .before .before .before .before .before .before .before .before .before .before .before in
+    let s = c .before .before .before .before .before .before .before .before .before .before .before .before .before .before .before .before .before .before .before .before .before .before in
     let enough = sym (suffices s) ∙ then1 c .if1 .taken in
     let opened = rw (s .before .opening-operands .ensures) at (t .«open» .ensures) in
     let put = c .before .before .append-outcome .ensures in
@@ -70,32 +73,35 @@ returns c =
 slice-relend-prefix-open : tie.Need-slice-relend-prefix-open
 slice-relend-prefix-open c = search needs
 
-slice-aggregate-open : tie.Need-slice-aggregate-open
-slice-aggregate-open c = search needs
+slice-aggregate-open-2 : tie.Need-slice-aggregate-open-2
+slice-aggregate-open-2 c = search needs
 
 slice-relend-prefix-open-2 : tie.Need-slice-relend-prefix-open-2
 slice-relend-prefix-open-2 c = search needs
 
-slice-aggregate-open-2 : tie.Need-slice-aggregate-open-2
-slice-aggregate-open-2 c = search needs
+slice-aggregate-open-3 : tie.Need-slice-aggregate-open-3
+slice-aggregate-open-3 c = search needs
 
 slice-relend-prefix-open-3 : tie.Need-slice-relend-prefix-open-3
 slice-relend-prefix-open-3 c = search needs
 
-slice-aggregate-open-3 : tie.Need-slice-aggregate-open-3
-slice-aggregate-open-3 c = search needs
+slice-aggregate-open-4 : tie.Need-slice-aggregate-open-4
+slice-aggregate-open-4 c = search needs
 
 slice-relend-prefix-open-4 : tie.Need-slice-relend-prefix-open-4
 slice-relend-prefix-open-4 c = search needs
 
-slice-aggregate-open-4 : tie.Need-slice-aggregate-open-4
-slice-aggregate-open-4 c = search needs
+slice-aggregate-open-5 : tie.Need-slice-aggregate-open-5
+slice-aggregate-open-5 c = search needs
 
 slice-relend-prefix-open-5 : tie.Need-slice-relend-prefix-open-5
 slice-relend-prefix-open-5 c = search needs
 
-slice-aggregate-open-5 : tie.Need-slice-aggregate-open-5
-slice-aggregate-open-5 c = search needs
+slice-aggregate-open-6 : tie.Need-slice-aggregate-open-6
+slice-aggregate-open-6 c = search needs
+
+slice-aggregate-open-7 : tie.Need-slice-aggregate-open-7
+slice-aggregate-open-7 c = search needs
 
 open-requires-2 : tie.Need-open-requires-2
 open-requires-2 c κs = search needs
@@ -124,7 +130,7 @@ same-length-12 c = search needs
 returns-2 : tie.Need-returns-2
 returns-2 c =
     let t = c .before .before .before .before .before .before .before .before .before .before .before .before .before .before .open2 in
-    let s = c .before .before .before .before .before .before .before .before .before .before .before .before .before .before .before .before .before .before .before .before .before in
+    let s = c .before .before .before .before .before .before .before .before .before .before .before .before .before .before .before .before .before .before .before .before .before .before in
     let short = sym (suffices s) ∙ else1 c .if1 .left in
     let opened = rw (s .before .opening-operands .ensures) at (t .ensures) in
     let put = c .before .before .append-outcome2 .ensures in
@@ -142,6 +148,7 @@ open-spec =
     (tie.spec
     opening-operands-requires
     parts-suffice-requires
+    slice-aggregate-open
     open-requires
     append-outcome-requires
     same-length
@@ -152,15 +159,16 @@ open-spec =
     same-length-6
     returns
     slice-relend-prefix-open
-    slice-aggregate-open
-    slice-relend-prefix-open-2
     slice-aggregate-open-2
-    slice-relend-prefix-open-3
+    slice-relend-prefix-open-2
     slice-aggregate-open-3
-    slice-relend-prefix-open-4
+    slice-relend-prefix-open-3
     slice-aggregate-open-4
-    slice-relend-prefix-open-5
+    slice-relend-prefix-open-4
     slice-aggregate-open-5
+    slice-relend-prefix-open-5
+    slice-aggregate-open-6
+    slice-aggregate-open-7
     open-requires-2
     append-outcome-requires-2
     same-length-7

@@ -10,10 +10,10 @@ use Rattle.opening.proofs.category_records.categories_checked.Statement
 use Rattle.opening.proofs.category_records.categories_checked.Tie as tie
 
 abbrev Inv-loop : tie.InvT-loop
-Inv-loop records count i₀ i = (i ≤ length records / 8) × (firstFailed (categoryNumber records) (length records / 8 - i) i ≡ firstFailed (categoryNumber records) (length records / 8) 0)
+Inv-loop windows records count i₀ i = (i ≤ length records / 8) × (firstFailed (categoryNumber windows records) (length records / 8 - i) i ≡ firstFailed (categoryNumber windows records) (length records / 8) 0)
 
 abbrev μ-loop : tie.MeasureT-loop
-μ-loop records count i₀ i = length records / 8 - i
+μ-loop windows records count i₀ i = length records / 8 - i
 
 abbrev at-loop : tie.Else1 Inv-loop μ-loop → tie.At-loop Inv-loop μ-loop
 at-loop c = c .before .before .before
@@ -27,8 +27,8 @@ loop-holds c = (omega arith, rw sub-zero)
 category-number-requires : tie.Need-category-number-requires Inv-loop μ-loop
 category-number-requires c κs = omega arith
 
-add-t7 : tie.Need-add-t7 Inv-loop μ-loop
-add-t7 c = omega arith
+add-t8 : tie.Need-add-t8 Inv-loop μ-loop
+add-t8 c = omega arith
 
 returns : tie.Need-returns Inv-loop μ-loop
 returns c = let l = at-loop-of-then1 c .loop in
@@ -55,7 +55,7 @@ categories-checked-spec =
     μ-loop
     loop-holds
     category-number-requires
-    add-t7
+    add-t8
     returns
     add-i
     loop-less

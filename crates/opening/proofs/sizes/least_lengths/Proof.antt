@@ -1,5 +1,6 @@
 -- `sizes::least_lengths` meets its contract: sizes in range give products far below 2 ^ 64.
 use Prim.Native.Nat.{_≤_}
+use mathlib.Core.List.{[]}
 use denote.Ref.{now}
 use Rattle.metering.specs.Laws.{duration-pos}
 use Rattle.ledger.specs.Opening.{Opening}
@@ -18,7 +19,7 @@ abbrev periods : tie.After-meters-length → tie.After-periods-per-day
 periods c = c .before .before
 
 abbrev call : tie.Start → Opening
-call s = let a = s .args in openingCall (a .terms) (now (a .category-records)) (now (a .day-types))
+call s = let a = s .args in openingCall (a .terms) [] (now (a .category-records)) (now (a .day-types))
 
 valid : (s : tie.Start) → Valid (call s)
 valid s = sizes-valid (call s) (s .pre)

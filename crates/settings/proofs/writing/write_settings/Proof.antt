@@ -11,7 +11,7 @@ use Rattle.settings.proofs.writing.write_settings.Statement.{statement}
 use Rattle.settings.proofs.writing.write_settings.Tie as tie
 
 abbrev start : tie.After-write-header-arg → tie.Start
-start c = c .before .before .before .before
+start c = c .before .before .before .before .before
 
 abbrev header : tie.After-copy-arg → tie.After-write-header
 header c = c .before .before .before
@@ -20,18 +20,18 @@ abbrev records : tie.After-copy-arg2 → tie.After-copy
 records c = c .before .before .before
 
 abbrev call : tie.Start → Opening
-call s = let a = s .args in openingCall (a .terms) (now (a .category-records)) (now (a .day-types))
+call s = let a = s .args in openingCall (a .terms) (now (a .windows)) (now (a .category-records)) (now (a .day-types))
 
 write-header-requires : tie.Need-write-header-requires
 unfolding settingsLength
-write-header-requires c κs = let s = start c in (s .pre .0, omega (arith, s .pre .1))
+write-header-requires c κs = let s = start c in (s .pre .0, (s .pre .1 .0, omega (arith, s .pre .1 .1)))
 
 copy-requires : tie.Need-copy-requires
 unfolding settingsLength
 copy-requires c κs =
     let w = header c in
     let s = start (w .before) in
-    omega (arith, sizes-valid (call s) (s .pre .0) .whole, s .pre .1, w .write-header .kept .0)
+    omega (arith, sizes-valid (call s) (s .pre .0) .whole, s .pre .1 .1, w .write-header .kept .0)
 
 add-copy : tie.Need-add-copy
 add-copy c = search needs
@@ -42,7 +42,7 @@ copy-requires-2 c κs =
     let r = records c in
     let w = header (r .before) in
     let s = start (w .before) in
-    omega (arith, sizes-valid (call s) (s .pre .0) .whole, s .pre .1, w .write-header .kept .0, r .copy .kept .0)
+    omega (arith, sizes-valid (call s) (s .pre .0) .whole, s .pre .1 .1, w .write-header .kept .0, r .copy .kept .0)
 
 same-length : tie.Need-same-length
 same-length c = search needs
@@ -53,7 +53,7 @@ returns c =
     let r = records (d .before) in
     let w = header (r .before) in
     let s = start (w .before) in
-    settings-written (call s) (now (s .args .settings)) (s .pre .0) (s .pre .1) (w .write-header .ensures) (r .copy .ensures) (d .copy2 .ensures)
+    settings-written (call s) (now (s .args .settings)) (s .pre .0) (s .pre .1 .1) (w .write-header .ensures) (r .copy .ensures) (d .copy2 .ensures)
 
 pub write-settings-spec : {M : Type 1} → statement M
 write-settings-spec =
