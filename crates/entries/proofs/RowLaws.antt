@@ -1,21 +1,26 @@
--- Laws of rows of entries: while they are filled, with a part put back, and counts of moved entries.
-use Prim.Native.Nat.{ℕ, zero, suc, ◌+◌, ◌*◌, ◌-◌, ◌/◌, ◌%◌, ◌≤◌, ◌<◌, zero-le}
+-- Laws of rows of entries: made from a function, while they are filled, and counts of moved entries.
+use Prim.Native.Nat.{ℕ, zero, suc, ◌+◌, ◌≤◌, ◌<◌, zero-le}
 use mathlib.Core.Path.{◌≡◌, sym, ap, ◌∙◌}
-use mathlib.Core.Bool.{cond}
-use mathlib.Core.List.{List, ◌++◌, append-nil}
-use native.Mathlib.Nat.{suc-mul, mul-le-mul_right, mod-lt, div-add-mod'}
+use mathlib.Core.List.{List, [], ◌∷◌, ◌++◌, append_assoc, append-nil}
+use native.Mathlib.Nat.{add-zero, add-suc}
 use native.Mathlib.Numerals.{add-one}
 use native.Mathlib.Omega.{arith}
-use lib.Dec.{eqb, ltb}
-use lib.ListN.{length, get_or, take, drop, length-append, length-drop, get_or-append}
-use lib.Seq.{drop-cons, get_or_at, drop-length, get_or-append-add, get_or-take, get_or-drop, length-take-le, ext_get_or}
+use lib.Dec.{eqb}
+use lib.ListN.{length, get_or, take, drop, get_or-append}
+use lib.Seq.{drop-cons, get_or_at, drop-length, get_or-append-add, get_or-drop, take_at, drop_at, drop-drop}
 use borrow.Table.Steps.{cases}
-use borrow.Author.Tests.{eqb-true, eqb-false, ltb-true, ltb-false}
+use borrow.Author.Tests.{eqb-true, eqb-false}
 use Rattle.metering.specs.Sum.{sum_below_suc, sum_below_zero}
-use Rattle.ledger.proofs.Lists.{length_tabulate, get_d_tabulate, filled, sum_below_cong}
+use Rattle.ledger.proofs.Lists.{length_tabulate, get_d_tabulate, tabulate_ext, filled, sum_below_cong, sum_below_more}
 use Rattle.ledger.specs.Table.{tabulate, filling}
 use Rattle.ledger.specs.Calls.{differing, moved_entry}
-use Rattle.entries.specs.Row.{spliced}
+
+-- ---- lists made from a function
+
+tabulate_add : (m n : ℕ) (f : ℕ → ℕ) → tabulate (m + n) f ≡ tabulate m f ++ tabulate n (λ k. f (m + k))
+unfolding tabulate
+tabulate_add m zero f = rw add-zero (sym (append-nil (tabulate m f)))
+tabulate_add m (suc n) f = rw (add-suc m n, tabulate_add m n f) (append_assoc (tabulate m f) (tabulate n (λ k. f (m + k))) (f (m + n) ∷ []))
 
 -- ---- rows while they are filled
 
@@ -33,86 +38,33 @@ module _ (f : ℕ → ℕ) (xs : List ℕ) where
   unfolding filling
   filling_all = rw (drop-length xs) (append-nil (tabulate (length xs) f))
 
+-- past the filled places the row is as it was
+pub filling_beyond : (f : ℕ → ℕ) (xs : List ℕ) (k p : ℕ) → get_or (filling k f xs) (k + p) 0 ≡ get_or xs (k + p) 0
+unfolding filling
+filling_beyond f xs k p =
+    ap (λ (a : ℕ). get_or (tabulate k f ++ drop k xs) (a + p) 0) (sym (length_tabulate k f))
+    ∙ get_or-append-add (tabulate k f) (drop k xs) p 0 ∙ get_or-drop k xs p 0
+
+-- n places more at once
+pub filling_stretch : (f g : ℕ → ℕ) (xs : List ℕ) (k n : ℕ) → ((p : ℕ) → p < n → g p ≡ f (k + p)) →
+    take k (filling k f xs) ++ (tabulate n g ++ drop n (drop k (filling k f xs))) ≡ filling (k + n) f xs
+unfolding filling
+filling_stretch f g xs k n h =
+    rw (
+      take_at (tabulate k f) (drop k xs) k (length_tabulate k f),
+      drop_at (tabulate k f) (drop k xs) k (length_tabulate k f),
+      drop-drop n k xs,
+      tabulate_ext n g (λ p. f (k + p)) h,
+      tabulate_add k n f,
+    )
+    (sym (append_assoc (tabulate k f) (tabulate n (λ p. f (k + p))) (drop (k + n) xs)))
+
 pub unfilled : (f : ℕ → ℕ) (xs ys : List ℕ) (k : ℕ) → ys ≡ filling k f xs → k < length xs → get_or ys k 0 ≡ get_or xs k 0
 unfilled f xs ys k so low = rw so (filling_at f xs k low)
 
 pub filled_whole : (f : ℕ → ℕ) (xs ys : List ℕ) (k n : ℕ) → ys ≡ filling k f xs → k ≡ n → n ≡ length xs → ys ≡ tabulate n f
 filled_whole f xs ys k n so is whole =
     filled f xs ys k (length xs) so (is ∙ whole) ∙ filling_all f xs ∙ ap (λ (m : ℕ). tabulate m f) (sym whole)
-
--- ---- a part put back into a row
-
-module _ (xs ys : List ℕ) (at n : ℕ) (len : length ys ≡ n) (fits : at + n ≤ length xs) where
-  head : length (take at xs) ≡ at
-  head = length-take-le at xs (omega arith)
-
-  splice_length : length (spliced xs ys at n) ≡ length xs
-  splice_length = rw (length-append, head, length-append, len, length-drop, length-drop) (omega arith)
-
-  splice_before : (k : ℕ) → k < at → get_or (spliced xs ys at n) k 0 ≡ get_or xs k 0
-  splice_before k l = get_or-append (take at xs) _ 0 k (rw head l) ∙ get_or-take at xs k 0 l
-
-  splice_in : (p : ℕ) → p < n → get_or (spliced xs ys at n) (at + p) 0 ≡ get_or ys p 0
-  splice_in p l =
-      ap (λ (a : ℕ). get_or (spliced xs ys at n) (a + p) 0) (sym head)
-      ∙ get_or-append-add (take at xs) (ys ++ drop n (drop at xs)) p 0
-      ∙ get_or-append ys (drop n (drop at xs)) 0 p (rw len l)
-
-  splice_after : (q : ℕ) → get_or (spliced xs ys at n) (at + (n + q)) 0 ≡ get_or xs (at + (n + q)) 0
-  splice_after q =
-      ap (λ (a : ℕ). get_or (spliced xs ys at n) (a + (n + q)) 0) (sym head)
-      ∙ get_or-append-add (take at xs) (ys ++ drop n (drop at xs)) (n + q) 0
-      ∙ ap (λ (a : ℕ). get_or (ys ++ drop n (drop at xs)) (a + q) 0) (sym len)
-      ∙ get_or-append-add ys (drop n (drop at xs)) q 0
-      ∙ get_or-drop n (drop at xs) q 0
-      ∙ get_or-drop at xs (n + q) 0
-
--- a category's stretch of P entries put back: place k of the row is place k % P of category k / P, and the row elsewhere stands
-module _ (P : ℕ) (some : 0 < P) (xs ys : List ℕ) (c : ℕ) (len : length ys ≡ P) (fits : c * P + P ≤ length xs) where
-  pub put_same : (k : ℕ) → k / P ≡ c → get_or (spliced xs ys (c * P) P) k 0 ≡ get_or ys (k % P) 0
-  put_same k e =
-      ap (λ (j : ℕ). get_or (spliced xs ys (c * P) P) j 0) (sym (div-add-mod' k P) ∙ ap (λ (b : ℕ). b * P + k % P) e)
-      ∙ splice_in xs ys (c * P) P len fits (k % P) (mod-lt k some)
-
-  pub put_other : (k : ℕ) → (k / P ≡ c → ⊥) → get_or (spliced xs ys (c * P) P) k 0 ≡ get_or xs k 0
-  put_other k ne =
-      cases (ltb k (c * P))
-      (λ e. splice_before xs ys (c * P) P len fits k (ltb-true _ _ e))
-      (λ e.
-      let at : ℕ = c * P in
-      let low : at ≤ k = ltb-false k (c * P) e in
-      let beyond : c < k / P = past low in
-      let far : at + P ≤ k = omega (arith, div-add-mod' k P, suc-mul c P, mul-le-mul_right P beyond) in
-      let q : ℕ = k - (at + P) in
-      let is : k ≡ at + (P + q) = omega arith in
-      ap (λ (j : ℕ). get_or (spliced xs ys at P) j 0) is
-      ∙ splice_after xs ys at P len fits q
-      ∙ ap (λ (j : ℕ). get_or xs j 0) (sym is))
-    where
-      past : c * P ≤ k → c < k / P
-      past low =
-          cases (ltb c (k / P)) (λ e. ltb-true _ _ e)
-          (λ e.
-          let under : k / P ≤ c = ltb-false c (k / P) e in
-          let less : k / P < c = omega (arith, ne) in
-          absurd (omega (arith, div-add-mod' k P, mod-lt k some, suc-mul (k / P) P, mul-le-mul_right P less)))
-
--- of a row made from a function
-pub put_made : (P n c : ℕ) (f g : ℕ → ℕ) → 0 < P → c * P + P ≤ n →
-    spliced (tabulate n f) (tabulate P g) (c * P) P ≡ tabulate n (λ k. cond (eqb (k / P) c) (g (k % P)) (f k))
-put_made P n c f g some fit =
-    let len : length (tabulate P g) ≡ P = length_tabulate P g in
-    let long : length (tabulate n f) ≡ n = length_tabulate n f in
-    let fits : c * P + P ≤ length (tabulate n f) = rw long fit in
-    let same_length : length (spliced (tabulate n f) (tabulate P g) (c * P) P) ≡ n = splice_length (tabulate n f) (tabulate P g) (c * P) P len fits ∙ long in
-    ext_get_or 0 (spliced (tabulate n f) (tabulate P g) (c * P) P) (tabulate n (λ k. cond (eqb (k / P) c) (g (k % P)) (f k)))
-    (same_length ∙ sym (length_tabulate n _))
-    (λ k l.
-    let low : k < n = rw same_length at l in
-    rw (get_d_tabulate n (λ x. cond (eqb (x / P) c) (g (x % P)) (f x)) k low)
-    (cases (eqb (k / P) c)
-    (λ e. rw e (put_same P some (tabulate n f) (tabulate P g) c len fits k (eqb-true _ _ e) ∙ get_d_tabulate P g (k % P) (mod-lt k some)))
-    (λ e. rw e (put_other P some (tabulate n f) (tabulate P g) c len fits k (eqb-false _ _ e) ∙ get_d_tabulate n f k low))))
 
 -- ---- differences
 
@@ -142,6 +94,10 @@ counted f g k n moved so is = so ∙ ap (λ (m : ℕ). differing m f g) is
 pub differing_ext : (n : ℕ) (f f' g g' : ℕ → ℕ) → ((k : ℕ) → k < n → f k ≡ f' k) → ((k : ℕ) → k < n → g k ≡ g' k) → differing n f g ≡ differing n f' g'
 unfolding differing
 differing_ext n f f' g g' p q = sum_below_cong n _ _ (λ k l. rw (p k l, q k l))
+
+pub differing_add : (m n : ℕ) (f g : ℕ → ℕ) → differing (m + n) f g ≡ differing m f g + differing n (λ k. f (m + k)) (λ k. g (m + k))
+unfolding differing
+differing_add m n f g = sum_below_more m n _
 
 moved_entry_zero : (a b : ℕ) → moved_entry a b ≡ 0 → a ≡ b
 unfolding moved_entry

@@ -1,5 +1,5 @@
 -- Which check of a call fails first, families and keys.
-use Rattle.std.proofs.Common.{◌≡◌, ℕ, zero, suc, ◌+◌, ◌*◌, ◌/◌, ◌%◌, ◌<◌, ◌≤◌, Bool, true, false, cond, not, ◌&&◌, ◌||◌, eqb, ltb, leb, ◌≢◌, ◌⊎◌, ◌↔◌, List, [], ◌∷◌, ◌++◌, length, get_or, drop, sym, refl, ap, ◌∙◌, inl, inr, ⊎_elim, true≢false, add-zero, mul-le-mul_right, zero-add, arith, get_or-drop, get_or-take, ltb-false, ltb-true, le-ltb, lt-ltb, eq-eqb, ne_eqb, eqb-true, le-leb, leb-false, leb-true}
+use Rattle.std.proofs.Common.{◌≡◌, ℕ, zero, suc, ◌+◌, ◌*◌, ◌/◌, ◌%◌, ◌<◌, ◌≤◌, Bool, true, false, cond, not, ◌&&◌, ◌||◌, eqb, ltb, leb, ◌≢◌, ◌⊎◌, ◌↔◌, List, [], ◌∷◌, ◌++◌, length, get_or, drop, sym, refl, ap, subst, ◌∙◌, inl, inr, ⊎_elim, true≢false, add-zero, mul-le-mul_right, zero-add, arith, get_or-drop, get_or-take, ltb-false, ltb-true, le-ltb, lt-ltb, eq-eqb, ne_eqb, eqb-true, le-leb, leb-false, leb-true}
 use mathlib.Core.Logic.Iff
 use mathlib.Core.Bool.{and-eq-true_iff}
 use mathlib.Core.Option.{Option, none, some, none-ne-some, some-ne-none, some-injective}
@@ -655,9 +655,16 @@ module _ (l : Ledger) (n : Lengths) (a : ReceptionCall) where
       let whole = (whole_iff (length a.body)).0 (eq-eqb _ _ m.whole_records) in
       let under : AllHold (under_rows l.opening a (appointed a.date rs) (some r)) = (m.a_category, ((m.appointment, midday, m.same_sender), (m.same_quantity, (m.same_duration, (whole, tt))))) in
       let header : AllHold (header_rows l n a (appointed a.date rs) (some r)) = ((meters_iff l.opening n).0 m.long_enough, (m.a_date, (m.a_number, ((r, refl), under)))) in
-      rw (m.known, (in_force_exact a.date rs r).1 m.in_force)
+      subst
+      (λ (found : Option Meter).
+      AllHold
+      (header_rows l n a (found_in (appointed a.date) (registrations_of found)) (found_in (in_force a.date) (registrations_of found))
+      ++ body_rows l.opening a (found_in (in_force a.date) (registrations_of found))))
+      (sym m.known)
+      (subst (λ (current : Option Registration). AllHold (header_rows l n a (appointed a.date rs) current ++ body_rows l.opening a current))
+      (sym ((in_force_exact a.date rs r).1 m.in_force))
       (all_append (header_rows l n a (appointed a.date rs) (some r)) (body_rows l.opening a (some r)) header
-      (each_all count (record_rows l.opening r a.body) (λ k h. (good_iff l.opening r a.body k).1 (m.good_records k h))))
+      (each_all count (record_rows l.opening r a.body) (λ k h. (good_iff l.opening r a.body k).1 (m.good_records k h)))))
 
 pub reception_exact : ReceptionExact
 reception_exact l n a known =

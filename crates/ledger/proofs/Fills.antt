@@ -1,6 +1,6 @@
 -- Laws of filled values: the Wh left over, and who gets one.
 use Rattle.std.proofs.Common.{◌≡◌, ℕ, zero, suc, ◌+◌, ◌-◌, ◌*◌, ◌<◌, ◌≤◌, Bool, true, false, cond, ◌&&◌, ◌||◌, eqb, ltb, leb, ◌≢◌, ◌⊎◌, sym, refl, ap, ◌∙◌, inl, inr, ⊎_elim, add-zero, mul-le-mul_right, mod-lt, mul_comm, add-mul, lt_of_mul-lt-mul_right, mul-zero, div-add-mod', zero-add, le_of_mul-le-mul_right, arith, ltb-false, ltb-true, le-ltb, lt-ltb, eq-eqb, ne_eqb, eqb-true, le-leb, leb-false, leb-true}
-use mathlib.Core.Bool.{and-eq-true_iff, and_false}
+use mathlib.Core.Bool.{and-eq-true_iff, and-false}
 use borrow.Table.Steps.{cases}
 use borrow.Author.Tests.{eqb-false, lt-leb}
 use Rattle.metering.specs.Sum.{sum_below, sum_below_le}
@@ -93,7 +93,7 @@ module _ (n : ℕ) (r : ℕ → ℕ) where
       (cases (ltb (r k) (r i))
       (λ a. let more = ltb-true (r k) (r i) a in omega arith)
       (λ a. let same = eqb-true (r i) (r k) ((and-eq-true_iff _ _).0 (rw a at q)).0 in omega arith))))
-      (rw (le-ltb (r k) (r k) (omega arith), le-ltb k k (omega arith), and_false, le-leb (suc t) (r k) h) (omega arith))
+      (rw (le-ltb (r k) (r k) (omega arith), le-ltb k k (omega arith), and-false, le-leb (suc t) (r k) h) (omega arith))
 
   -- and one equal to t after all above it and the equal ones that are earlier
   equal_comes_between : (t k : ℕ) → k < n → r k ≡ t → count_before n r k ≡ reaching n r (suc t) + equal_to k r t

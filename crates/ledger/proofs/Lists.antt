@@ -64,7 +64,7 @@ module _ {A : Type 0} where
   unfolding filling tabulate
   filling_zero f xs = refl
 
-  filling_length : (f : ℕ → A) (xs : List A) (k : ℕ) → k ≤ length xs → length (filling k f xs) ≡ length xs
+  pub filling_length : (f : ℕ → A) (xs : List A) (k : ℕ) → k ≤ length xs → length (filling k f xs) ≡ length xs
   unfolding filling
   filling_length f xs k h = rw (length-append, length_tabulate, length-drop) (omega arith)
 

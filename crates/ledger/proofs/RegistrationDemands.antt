@@ -170,7 +170,7 @@ module _ (key key' : Registration → ℕ) (bound bound' : ℕ) (in_time : (r : 
       Some (latest_from key bound best rs) → Some (latest_from key' bound' best' rs)
   unfolding latest_from
   some_too best best' [] both s = both s
-  some_too best best' (x ∷ rs) both s = some_too _ _ rs (some_step best best' x both) s
+  some_too best best' (x ∷ rs) both s = some_too (later key bound best x) (later key' bound' best' x) rs (some_step best best' x both) s
 
 -- what has started by a date was registered by its midday
 started_by_midday : (date : ℕ) (r : Registration) → starts r ≤ date → r.moment ≤ moment_of date 720

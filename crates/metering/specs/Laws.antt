@@ -1,7 +1,7 @@
 -- Laws of the definitions, for the layers above: what they may use without opening a definition.
 use Rattle.std.specs.Prelude.{ℕ, zero, suc, ◌+◌, ◌*◌, ◌/◌, ◌%◌, ◌-◌, ◌≤◌, ◌<◌, ◌≡◌, refl, ◌↔◌, ◌≢◌, ◌⊎◌, Bool, true, false, not, ◌&&◌, get_or, eqb, leb, ltb, ℤ, pos, neg_ℤ, ◌+ℤ◌, ◌-ℤ◌, ◌≤ℤ◌, ◌<ℤ◌}
 use Rattle.std.proofs.Common.{sym, ap, ◌∙◌, inl, inr, ⊎_elim, div-lt_iff_lt-mul, div-one, div-add-mod', div-mul-le_self, le-div_iff_mul-le, le_trans, add-zero, mul-pos, mul-div_cancel, le_of_mul-le-mul_right, mul-le-mul_left, mul-le-mul_right, mul-lt-mul_of_pos_right, arith, leb→le, le→leb, ltb→lt, lt→ltb, leb-true, le-leb, ltb-true, ltb-false, lt-ltb, le-ltb, eqb-true, eq-eqb, ne_eqb}
-use Rattle.std.proofs.Math.Bool.{and-eq-true_iff, and_false}
+use Rattle.std.proofs.Math.Bool.{and-eq-true_iff, and-false}
 use Rattle.std.proofs.Math.Nat.{mul-div-le, lt-mul-div-succ, div-eq_of_lt-le, mul-mod_left}
 use Rattle.std.proofs.Math.IntN.{sub_ℕ, +ℤ_comm, +ℤ-neg_ℤ_cancel, -ℤ-+ℤ_cancel}
 use Rattle.std.specs.Int.Signed.{mag}
@@ -260,4 +260,4 @@ windows_apart d start end later-start later-end j hd hj apart e =
 -- no period ends at minute 0
 pub empty_window : (d start j : ℕ) → 0 < d → 1 ≤ j → lies_within d start 0 j ≡ false
 unfolding lies_within
-empty_window d start j hd hj = rw (lt-leb (j * d) 0 (mul-pos hj hd)) (and_false (leb start ((j - 1) * d)))
+empty_window d start j hd hj = rw (lt-leb (j * d) 0 (mul-pos hj hd)) (and-false (leb start ((j - 1) * d)))

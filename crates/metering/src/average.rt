@@ -29,6 +29,7 @@ pub fn average_up(sum: u64, count: u64) -> Average
     }
 }
 
+#[tactic(auto, unfolding(crate::specs::Average::annual))]
 pub fn annual_figure(sum: u64, days: u64) -> u64
     requires { (0 < days) × (sum * 365 < 2 ^ 64) }
     ensures { result ≡ annual sum days }

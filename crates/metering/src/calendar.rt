@@ -2,12 +2,14 @@
 ghost use Rattle.std.specs.Prelude.{◌≡◌, ◌⊎◌, ◌<◌};
 ghost use Rattle.metering.specs.Calendar.{duration_known, periods_per_day, period_ending, window_valid, BegunBefore, EndedBy, PeriodsWithin};
 
+#[tactic(auto, unfolding(crate::specs::Calendar::duration_known))]
 pub fn duration_known(duration: u64) -> bool
     ensures { result ≡ duration_known duration }
 {
     duration == 15 || duration == 30
 }
 
+#[tactic(auto, unfolding(crate::specs::Calendar::periods_per_day))]
 pub fn periods_per_day(duration: u64) -> u64
     requires { 0 < duration }
     ensures { result ≡ periods_per_day duration }
@@ -16,6 +18,7 @@ pub fn periods_per_day(duration: u64) -> u64
 }
 
 // 0 says that the minute closes no period: periods count from 1.
+#[tactic(auto, unfolding(crate::specs::Calendar::period_ending))]
 pub fn period_ending(duration: u64, minute: u64) -> u64
     requires { 0 < duration }
     ensures { result ≡ period_ending duration minute }
@@ -30,6 +33,7 @@ pub fn period_ending(duration: u64, minute: u64) -> u64
 }
 
 // Whether minutes make a window: both on the grid of the duration, in order, and within the day.
+#[tactic(auto, unfolding(crate::specs::Calendar::window_valid))]
 pub fn window_valid(duration: u64, start: u64, end: u64) -> bool
     requires { 0 < duration }
     ensures { result ≡ window_valid duration start end }

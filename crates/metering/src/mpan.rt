@@ -5,6 +5,7 @@ ghost use Rattle.metering.specs.Mpan.{weighted_sum, mpan_valid};
 const WEIGHTS: [u64; 12] = [3, 5, 7, 13, 17, 19, 23, 29, 31, 37, 41, 43];
 
 // The digits come off the right, so the table is walked from its end.
+#[tactic(auto, unfolding(crate::specs::Mpan::weighted_sum, crate::specs::Mpan::weights))]
 fn weighted_sum(mpan: u64) -> u64
     ensures { result ≡ weighted_sum mpan }
 {
@@ -19,6 +20,7 @@ fn weighted_sum(mpan: u64) -> u64
     sum
 }
 
+#[tactic(auto, unfolding(crate::specs::Mpan::mpan_valid, crate::specs::Mpan::check_digit))]
 pub fn mpan_valid(mpan: u64) -> bool
     ensures { result ≡ mpan_valid mpan }
 {

@@ -19,8 +19,7 @@ use Rattle.ledger.proofs.Nets.{signed_minus, sum_over_append}
 use Rattle.store.specs.declared.column.Column.{Column}
 use Rattle.store.specs.Column.{column_of, beside, cell_in, run_in}
 use Rattle.entries.specs.Sums.{Summed}
-use Rattle.entries.specs.Sums.{SummedFirst}
-use Rattle.net.specs.Walk.{DayWritten, NetWritten, side_value, period_net, period_mark, week_tot, net_in}
+use Rattle.net.specs.Walk.{SummedFirst, DayWritten, NetWritten, side_value, period_net, period_mark, week_tot, net_in}
 
 -- ---- marks
 

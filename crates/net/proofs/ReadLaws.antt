@@ -1,33 +1,39 @@
 -- What a net read answers and leaves, where a check fails and where none does.
-use Prim.Native.Nat.{ℕ, ◌≤◌, ◌<◌}
+use Prim.Native.Nat.{ℕ, zero, suc, ◌≤◌, ◌<◌}
 use mathlib.Core.Path.{◌≡◌, refl, ap, ◌∙◌}
 use mathlib.Core.Bool.{Bool, true, false, not, cond}
-use mathlib.Core.List.{List}
+use mathlib.Core.List.{List, [], ◌∷◌}
 use native.Mathlib.Omega.{arith}
+use native.Mathlib.Nat.{not-suc-le-zero}
 use lib.IntN.{ℤ}
-use lib.ListN.{length, take}
+use lib.ListN.{length, get_or, take}
 use lib.Seq.{get_or-take}
 use Rattle.ledger.specs.Net.{active_import, active_export, side_of, Net}
 use Rattle.ledger.specs.Checks.{Verdict, may_net, net_check}
 use Rattle.ledger.specs.Ledger.{Answer, answer, left, refused, net_is}
 use Rattle.ledger.specs.Sizes.{days_length}
+use Rattle.ledger.specs.Ready.{Ready, ready}
 use Rattle.ledger.specs.Store.{categories_of, dates_of, periods_of, row_length, category_of, settings_ready, is_run_at}
 use Rattle.ledger.specs.Calls.{side_for, days_unready, net_verdict, net_of_sides, net_for, overwritten}
 use Rattle.ledger.specs.Engine.{Every}
 use Rattle.ledger.proofs.Lists.{length_tabulate, front_is}
-use Rattle.ledger.proofs.Chosen.{every_at, chosen_below_lem}
+use Rattle.ledger.proofs.Chosen.{chosen_below_lem}
 use Rattle.ledger.proofs.Verdicts.{refused_is, kept_is, given_is, after_is}
 use Rattle.store.specs.declared.column.Column.{Column}
 use Rattle.store.specs.Column.{column_of}
 use Rattle.store.proofs.DayLaws.{days_lent, rows_fit}
 use Rattle.reads.proofs.CheckLaws.{range_passed, range_reaches, range_number, range_decides, range_leaves}
 use Rattle.net.specs.Asked.{net_call}
-use Rattle.settings.specs.Members.{Listed}
-use Rattle.settings.proofs.MemberLaws.{found_count}
-use Rattle.net.specs.Sides.{paired_with}
+use Rattle.net.specs.Sides.{Listed, paired_with}
 use Rattle.net.specs.Walk.{Among, InDays, MayWrite, NetWritten}
+use Rattle.net.proofs.SideLaws.{found_count}
 
 -- ---- members
+
+every_at : (P : ℕ → Type 0) (cs : List ℕ) (i : ℕ) → Every P cs → i < length cs → P (get_or cs i 0)
+every_at P [] i all h = absurd (not-suc-le-zero h)
+every_at P (c ∷ cs) zero all h = all.0
+every_at P (c ∷ cs) (suc i) all h = every_at P cs i all.1 (omega arith)
 
 side_low : (s : List ℕ) (all_groups : Bool) (quantity c : ℕ) → Every (λ b. b < categories_of s) (side_for s all_groups quantity c)
 unfolding side_for side_of

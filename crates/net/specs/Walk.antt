@@ -1,5 +1,5 @@
 -- Sums over the categories at the front of an array, and what is written for the periods of a date.
-use Rattle.std.specs.Prelude.{ℕ, ◌+◌, ◌≤◌, ◌<◌, ◌≡◌, cond, List, eqb, length, get_or, ℤ, pos, ◌-ℤ◌}
+use Rattle.std.specs.Prelude.{ℕ, ◌+◌, ◌*◌, ◌≤◌, ◌<◌, ◌≡◌, cond, List, eqb, length, get_or, take, ℤ, pos, ◌-ℤ◌}
 use Rattle.ledger.specs.Table.{filling}
 use Rattle.ledger.specs.Net.{sum_over, Net}
 use Rattle.ledger.specs.Store.{tot_row, day_index, energy_of}
@@ -7,7 +7,12 @@ use Rattle.ledger.specs.Calls.{dates_sum, net_with, overwritten}
 use Rattle.store.specs.declared.column.Column.{Column}
 use Rattle.store.specs.Column.{beside, cell_in, run_in, value_after, blank_after, Reaches}
 use Rattle.store.specs.DayRows.{RowsFit}
-use Rattle.entries.specs.Sums.{Summed, SummedFirst}
+use Rattle.entries.specs.Sums.{Summed}
+
+-- over the first `count` members, with the bound that keeps the sum within 64 bits
+pub record SummedFirst (members : List ℕ) (count bound : ℕ) (f : ℕ → ℕ) (r : ℕ) : Type 0 where
+  pub is : r ≡ sum_over (take count members) f
+  pub small : r ≤ bound * count
 
 -- the first `count` members are among the categories that there are
 pub record Among (categories : ℕ) (members : List ℕ) (count : ℕ) : Type 0 where

@@ -3,8 +3,9 @@ ghost use Rattle.std.specs.Prelude.{◌≡◌, true, not, cond, ◌<◌};
 ghost use Rattle.ledger.specs.Store.{categories_of, dates_of, row_length, settings_ready, cells_ready, is_run_at};
 ghost use Rattle.net.specs.Sides.{paired_with};
 
+use crate::sides::ACTIVE_IMPORT;
 use reads::checks::{first_number, run_number};
-use settings::category::{ACTIVE_IMPORT, is_smart, quantity};
+use settings::category::{is_smart, quantity};
 
 // 26; `exports` is how many export categories there are on the other side.
 fn partner_number(settings: &[u8], category: u64, exports: u64) -> u64

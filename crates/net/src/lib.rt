@@ -10,17 +10,17 @@ ghost use Rattle.net.specs.Walk.{net_in, MayWrite, NetWritten};
 
 use crate::checks::pair_number;
 use crate::periods::{difference, write_periods};
+use crate::sides::{ACTIVE_EXPORT, ACTIVE_IMPORT, members};
 use crate::week::week_sum;
 use reads::checks::range_number;
-use settings::category::{ACTIVE_EXPORT, ACTIVE_IMPORT};
 use settings::header::date_count;
-use settings::members::side_members;
 use store::column::{Column, column_of};
 use store::lent::days_unready;
 use store::outcome::{Net, NetOutcome};
 
 mod checks;
 mod periods;
+mod sides;
 mod week;
 
 pub fn read_net(
@@ -58,7 +58,7 @@ pub fn read_net(
         };
     }
     let mut exports = [0u64; 64];
-    let export_count = side_members(settings, all_groups, ACTIVE_EXPORT, category, &mut exports);
+    let export_count = members(settings, all_groups, ACTIVE_EXPORT, category, &mut exports);
     let pair_failed = pair_number(settings, cells, date, category, export_count);
     if pair_failed != 0 {
         return NetOutcome::Refused {
@@ -67,7 +67,7 @@ pub fn read_net(
         };
     }
     let mut imports = [0u64; 64];
-    let import_count = side_members(settings, all_groups, ACTIVE_IMPORT, category, &mut imports);
+    let import_count = members(settings, all_groups, ACTIVE_IMPORT, category, &mut imports);
     let column = column_of(settings, category);
     let dates = date_count(settings);
     NetOutcome::Net(net_of(

@@ -1,7 +1,6 @@
 // TOT7 of a side, from the days.
 ghost use Rattle.std.specs.Prelude.{length};
-ghost use Rattle.entries.specs.Sums.{SummedFirst};
-ghost use Rattle.net.specs.Walk.{InDays, week_tot};
+ghost use Rattle.net.specs.Walk.{InDays, SummedFirst, week_tot};
 
 use day_reads::sums::dates_sum;
 use entries::day::energy_of;

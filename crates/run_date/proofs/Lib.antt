@@ -1,3 +1,2 @@
--- Laws that the proofs share.
+-- Laws that the proofs of a date's row share.
 pub mod Laws
-pub mod FamilyLaws

@@ -1,3 +1,2 @@
 -- What the tally and the date's row say beyond the ledger crate's definitions.
 pub mod Sums
-pub mod Family

@@ -1,35 +1,75 @@
-// The date's own row, family by family.
-ghost use Rattle.std.specs.Prelude.{◌≡◌, true, ◌<◌, ◌≤◌, length, get_or};
-ghost use Rattle.ledger.specs.Net.{sum_over};
+// The date's own row, category by category.
+ghost use Rattle.std.specs.Prelude.{◌≡◌, true, ◌+◌, ◌<◌, ◌≤◌, length, get_or};
 ghost use Rattle.ledger.specs.Store.{settings_ready, categories_of, periods_of, row_length};
 ghost use Rattle.ledger.specs.Table.{tabulate};
 ghost use Rattle.ledger.specs.Calls.{compared_entry, differing};
-ghost use Rattle.run_rows.specs.Family.{rewritten, moved_in};
-ghost use Rattle.run_date.specs.Sums.{Bounded, entry_from, row_from};
-ghost use Rattle.run_date.specs.Family.{Minimums, led_by};
+ghost use Rattle.run_date.specs.Sums.{Bounded, Pooled, entry_from, row_from};
 
-use run_rows::family::write_led;
-use settings::category::de_minimis;
+use run_rows::shape::shape_row;
+use run_rows::sums::add_row;
+use settings::category::{de_minimis, is_smart, same_family};
 use settings::header::{category_count, period_count};
-use settings::members::family_members;
+use store::rows::category_start;
 
-// Each category's de-minimis count.
-fn list_minimums(settings: &[u8], minimums: &mut [u64])
-    requires { (settings_ready settings.now ≡ true) × (64 ≤ length minimums.old) }
-    ensures { Minimums settings.now (categories_of settings.now) minimums.new }
+// Adds the rows of category b where it is of the family.
+fn add_member(
+    settings: &[u8],
+    sums: &[u64],
+    counts: &[u64],
+    category: u64,
+    b: u64,
+    family_sums: &mut [u64],
+    family_counts: &mut [u64],
+)
+    requires settings_value { (settings_ready settings.now ≡ true) × (row_length settings.now ≤ length sums.now) × (row_length settings.now ≤ length counts.now) }
+    requires bounded { Bounded settings.now sums.now counts.now }
+    requires settings_in_bounds { (periods_of settings.now ≤ length family_sums.old) × (periods_of settings.now ≤ length family_counts.old) }
+    requires category_bound { (category < categories_of settings.now) × (b < categories_of settings.now) }
+    requires pooled { (Pooled settings.now sums.now category b family_sums.old) × (Pooled settings.now counts.now category b family_counts.old) }
+    ensures { (Pooled settings.now sums.now category (b + 1) family_sums.new) × (Pooled settings.now counts.now category (b + 1) family_counts.new) }
+{
+    if !same_family(settings, category, b) {
+        return;
+    }
+    let periods = period_count(settings);
+    let at = category_start(b, periods);
+    add_row(sums, at as usize, periods as usize, family_sums);
+    add_row(counts, at as usize, periods as usize, family_counts);
+}
+
+fn pool_family(
+    settings: &[u8],
+    sums: &[u64],
+    counts: &[u64],
+    category: u64,
+    family_sums: &mut [u64],
+    family_counts: &mut [u64],
+)
+    requires settings_value { (settings_ready settings.now ≡ true) × (row_length settings.now ≤ length sums.now) × (row_length settings.now ≤ length counts.now) }
+    requires bounded { Bounded settings.now sums.now counts.now }
+    requires settings_in_bounds { (periods_of settings.now ≤ length family_sums.old) × (periods_of settings.now ≤ length family_counts.old) }
+    requires category_bound { category < categories_of settings.now }
+    requires pooled { (Pooled settings.now sums.now category 0 family_sums.old) × (Pooled settings.now counts.now category 0 family_counts.old) }
+    ensures { (Pooled settings.now sums.now category (categories_of settings.now) family_sums.new) × (Pooled settings.now counts.now category (categories_of settings.now) family_counts.new) }
 {
     let categories = category_count(settings);
     let mut b: u64 = 0;
     while b < categories {
-        minimums[b as usize] = de_minimis(settings, b);
+        add_member(
+            settings,
+            sums,
+            counts,
+            category,
+            b,
+            family_sums,
+            family_counts,
+        );
         b += 1;
     }
 }
 
-// The category's family is found first; the walk over the periods is lent no more of it than the list.
 fn write_category(
     settings: &[u8],
-    minimums: &[u64],
     sums: &[u64],
     counts: &[u64],
     inherited: &[u64],
@@ -39,53 +79,33 @@ fn write_category(
 ) -> u64
     requires settings_value { (settings_ready settings.now ≡ true) × (row_length settings.now ≤ length sums.now) × (row_length settings.now ≤ length counts.now) }
     requires bounded { Bounded settings.now sums.now counts.now }
-    requires settings_in_bounds { (row_length settings.now ≤ length inherited.now) × (category < categories_of settings.now) × (date < 1024) × (length row.old ≡ row_length settings.now) }
-    requires in_bounds { (64 ≤ length minimums.now) × Minimums settings.now (categories_of settings.now) minimums.now }
-    ensures row_after { row.new ≡ tabulate (row_length settings.now) (rewritten (led_by settings.now category) (periods_of settings.now) (entry_from settings.now sums.now counts.now inherited.now date) row.old) }
-    ensures value { result ≡ sum_over (led_by settings.now category) (moved_in (periods_of settings.now) (entry_from settings.now sums.now counts.now inherited.now date) row.old) }
+    requires settings_in_bounds { (row_length settings.now ≤ length inherited.now) × (category < categories_of settings.now) × (date < 1024) × (length row.old ≡ periods_of settings.now) }
+    ensures row_after { row.new ≡ tabulate (periods_of settings.now) (entry_from settings.now sums.now counts.now inherited.now date category) }
+    ensures value { result ≡ differing (periods_of settings.now) (λ p. compared_entry (get_or row.old p 0)) (entry_from settings.now sums.now counts.now inherited.now date category) }
 {
-    let mut members = [0u64; 64];
-    let count = family_members(settings, category, &mut members) as usize;
-    write_led(
-        &members[..count],
+    let mut family_sums = [0u64; 96];
+    let mut family_counts = [0u64; 96];
+    pool_family(
+        settings,
+        sums,
+        counts,
         category,
-        minimums,
+        &mut family_sums,
+        &mut family_counts,
+    );
+    let at = category_start(category, period_count(settings));
+    shape_row(
+        is_smart(settings, category),
+        de_minimis(settings, category),
         date,
-        period_count(settings),
         sums,
         counts,
         inherited,
+        at as usize,
+        &family_sums,
+        &family_counts,
         row,
     )
-}
-
-// Category by category, each with the rows of its turn.
-fn write_families(
-    settings: &[u8],
-    minimums: &[u64],
-    sums: &[u64],
-    counts: &[u64],
-    inherited: &[u64],
-    date: u64,
-    row: &mut [u64],
-) -> u64
-    requires settings_value { (settings_ready settings.now ≡ true) × (row_length settings.now ≤ length sums.now) × (row_length settings.now ≤ length counts.now) }
-    requires bounded { Bounded settings.now sums.now counts.now }
-    requires settings_in_bounds { (row_length settings.now ≤ length inherited.now) × (date < 1024) × (length row.old ≡ row_length settings.now) }
-    requires in_bounds { (64 ≤ length minimums.now) × Minimums settings.now (categories_of settings.now) minimums.now }
-    ensures row_after { row.new ≡ tabulate (row_length settings.now) (row_from settings.now sums.now counts.now inherited.now date) }
-    ensures value { result ≡ differing (row_length settings.now) (λ k. compared_entry (get_or row.old k 0)) (row_from settings.now sums.now counts.now inherited.now date) }
-{
-    let categories = category_count(settings);
-    let mut moved: u64 = 0;
-    let mut category: u64 = 0;
-    while category < categories {
-        moved += write_category(
-            settings, minimums, sums, counts, inherited, category, date, row,
-        );
-        category += 1;
-    }
-    moved
 }
 
 // The row is the date's part of the cells. Answers how many of its cells moved.
@@ -103,7 +123,23 @@ pub fn write_row(
     ensures row_after { row.new ≡ tabulate (row_length settings.now) (row_from settings.now sums.now counts.now inherited.now date) }
     ensures value { result ≡ differing (row_length settings.now) (λ k. compared_entry (get_or row.old k 0)) (row_from settings.now sums.now counts.now inherited.now date) }
 {
-    let mut minimums = [0u64; 64];
-    list_minimums(settings, &mut minimums);
-    write_families(settings, &minimums, sums, counts, inherited, date, row)
+    let categories = category_count(settings);
+    let periods = period_count(settings);
+    let mut moved: u64 = 0;
+    let mut category: u64 = 0;
+    while category < categories {
+        let at = category_start(category, periods) as usize;
+        let end = at + periods as usize;
+        moved += write_category(
+            settings,
+            sums,
+            counts,
+            inherited,
+            category,
+            date,
+            &mut row[at..end],
+        );
+        category += 1;
+    }
+    moved
 }

@@ -1,4 +1,3 @@
 -- What the row functions say beyond the ledger crate's definitions.
 pub mod Sums
 pub mod Shape
-pub mod Family

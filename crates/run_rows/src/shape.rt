@@ -1,5 +1,5 @@
 // A category's row of the date that is run.
-ghost use Rattle.std.specs.Prelude.{◌≡◌, true, ℕ, ◌+◌, ◌<◌, ◌≤◌, length, get_or};
+ghost use Rattle.std.specs.Prelude.{◌≡◌, ℕ, ◌+◌, ◌<◌, ◌≤◌, length, get_or};
 ghost use Rattle.ledger.specs.Method.{is_enough, fresh_of};
 ghost use Rattle.ledger.specs.Table.{tabulate};
 ghost use Rattle.ledger.specs.Calls.{row_entry, compared_entry, differing};
@@ -18,8 +18,9 @@ fn enough(count: u64, de_minimis: u64) -> bool
     de_minimis <= count
 }
 
-// The entry of a category and period: its own average, the family's, or what the date takes over. Without a family its count is 0.
+// The entry of a category and period: its own average, the family's, or what the date takes over.
 fn shape_entry(
+    smart: bool,
     de_minimis: u64,
     date: u64,
     sum: u64,
@@ -31,19 +32,22 @@ fn shape_entry(
     requires date_bound { date < 1024 }
     requires averaged { Averaged sum count }
     requires averaged_2 { Averaged family_sum family_count }
-    ensures { result ≡ row_entry date (fresh_of true de_minimis sum count family_sum family_count) inherited }
+    ensures { result ≡ row_entry date (fresh_of smart de_minimis sum count family_sum family_count) inherited }
 {
     if enough(count, de_minimis) {
         return entry_of(Cell::own(date, average_up(sum, count), count));
     }
-    if enough(family_count, de_minimis) {
-        return entry_of(Cell::pooled(date, average_up(family_sum, family_count), family_count));
+    if smart {
+        if enough(family_count, de_minimis) {
+            return entry_of(Cell::pooled(date, average_up(family_sum, family_count), family_count));
+        }
     }
     inherited
 }
 
 // Writes a category's row, whose stretch starts at `at`, and counts the cells that moved.
 pub fn shape_row(
+    smart: bool,
     de_minimis: u64,
     date: u64,
     sums: &[u64],
@@ -57,8 +61,8 @@ pub fn shape_row(
     requires date_bound { (date < 1024) × (at + length row.old ≤ length sums.now) × (at + length row.old ≤ length counts.now) × (at + length row.old ≤ length inherited.now) × (length row.old ≤ length family_sums.now) × (length row.old ≤ length family_counts.now) }
     requires by_index { (p : ℕ) → p < length row.old → Averaged (get_or sums.now (at + p) 0) (get_or counts.now (at + p) 0) }
     requires by_index_2 { (p : ℕ) → p < length row.old → Averaged (get_or family_sums.now p 0) (get_or family_counts.now p 0) }
-    ensures row_after { row.new ≡ tabulate (length row.old) (shape_at de_minimis date sums.now counts.now inherited.now at family_sums.now family_counts.now) }
-    ensures value { result ≡ differing (length row.old) (λ p. compared_entry (get_or row.old p 0)) (shape_at de_minimis date sums.now counts.now inherited.now at family_sums.now family_counts.now) }
+    ensures row_after { row.new ≡ tabulate (length row.old) (shape_at smart de_minimis date sums.now counts.now inherited.now at family_sums.now family_counts.now) }
+    ensures value { result ≡ differing (length row.old) (λ p. compared_entry (get_or row.old p 0)) (shape_at smart de_minimis date sums.now counts.now inherited.now at family_sums.now family_counts.now) }
 {
     let mut moved: u64 = 0;
     let mut p: usize = 0;
@@ -66,6 +70,7 @@ pub fn shape_row(
         let k = at + p;
         let old = row[p];
         let new = shape_entry(
+            smart,
             de_minimis,
             date,
             sums[k],

@@ -11,11 +11,6 @@ use crate::access::byte_at;
 use crate::header::category_count;
 use crate::sizes::HEADER_LENGTH;
 
-// A category record's quantities.
-pub const ACTIVE_IMPORT: u64 = 1;
-
-pub const ACTIVE_EXPORT: u64 = 2;
-
 fn category_byte(settings: &[u8], category: u64, k: u64) -> u64
     requires { (settings_ready settings.now ≡ true) × (category < categories_of settings.now) × (k < 8) }
     ensures { Byte (drop header_length settings.now) (8 * category + k) result }
@@ -69,6 +64,14 @@ fn in_family(settings: &[u8], quantity: u64, a: u64, b: u64) -> bool
         return false;
     }
     category_byte(settings, a, 4) == category_byte(settings, b, 4)
+}
+
+// Smart categories alike in domestic, quantity and connection.
+pub fn same_family(settings: &[u8], a: u64, b: u64) -> bool
+    requires { (settings_ready settings.now ≡ true) × (a < categories_of settings.now) × (b < categories_of settings.now) }
+    ensures { result ≡ same_family (category_of settings.now a) (category_of settings.now b) }
+{
+    in_family(settings, quantity(settings, a), a, b)
 }
 
 // Whether b stands on a net's side of this quantity: in that family, and in a's group unless all groups are pooled.

@@ -21,7 +21,7 @@ start c = c.before.before.before.before.before
 abbrev lent : tie.Else2 → tie.Else1
 lent c = c.before.before
 
-abbrev ranged : tie.After-side-members → tie.Else2
+abbrev ranged : tie.After-members → tie.Else2
 ranged c = c.before.before
 
 abbrev paired : tie.After-column-of → tie.Else3
@@ -51,7 +51,7 @@ decides c =
     let m = c.before in
     let r = ranged m in
     let a = (start (lent r).before).args in
-    by_pair a.settings.now a.cells.now a.days.now a.all-groups a.date a.category a.numbers.now a.marks.now (long (lent r)) _ r.before.range-number.ensures _ _ _ r.if2.left m.side-members.ensures c.pair-number.ensures
+    by_pair a.settings.now a.cells.now a.days.now a.all-groups a.date a.category a.numbers.now a.marks.now (long (lent r)) _ r.before.range-number.ensures _ _ _ r.if2.left m.members.ensures c.pair-number.ensures
 
 days-unready-requires : tie.Need-days-unready-requires
 days-unready-requires c κs = search rules
@@ -74,8 +74,8 @@ returns-2 c =
     (by_range a.settings.now a.cells.now a.days.now a.all-groups a.date a.category a.numbers.now a.marks.now (long l) _ c.before.range-number.ensures c.if2.true)
     c.if2.true
 
-side-members-requires : tie.Need-side-members-requires
-side-members-requires c κs = let ok = known c.before in (ok.0.opened, ok.2, refl)
+members-requires : tie.Need-members-requires
+members-requires c κs = let ok = known c.before in (ok.0.opened, ok.2, refl)
 
 pair-number-requires : tie.Need-pair-number-requires
 pair-number-requires c κs = let ok = known (ranged c) in (ok.0.opened, ok.0.complete, ok.1, ok.2)
@@ -85,8 +85,8 @@ returns-3 c =
     let a = (start (lent (ranged c.before.before)).before).args in
     refuses a.settings.now a.cells.now a.days.now a.all-groups a.date a.category a.numbers.now a.marks.now _ (decides c.before) c.if3.true
 
-side-members-requires-2 : tie.Need-side-members-requires-2
-side-members-requires-2 c κs = let ok = known (ranged c.before.before.before) in (ok.0.opened, ok.2, refl)
+members-requires-2 : tie.Need-members-requires-2
+members-requires-2 c κs = let ok = known (ranged c.before.before.before) in (ok.0.opened, ok.2, refl)
 
 column-of-requires : tie.Need-column-of-requires
 column-of-requires c κs = (known (ranged c.before.before.before.before)).0.opened
@@ -101,7 +101,7 @@ net-of-requires c κs =
     let m = (paired col).before.before in
     let r = ranged m in
     let a = (start (lent r).before).args in
-    may_write a.settings.now a.cells.now a.days.now a.all-groups a.date a.category _ _ col.column-of.ensures dates.date-count.ensures (long (lent r)) (in_range r) col.before.side-members2.ensures m.side-members.ensures
+    may_write a.settings.now a.cells.now a.days.now a.all-groups a.date a.category _ _ col.column-of.ensures dates.date-count.ensures (long (lent r)) (in_range r) col.before.members2.ensures m.members.ensures
 
 same_length : tie.Need-same-length
 same_length c = search rules
@@ -120,8 +120,8 @@ returns-4 c =
     accepts a.settings.now a.cells.now a.days.now a.all-groups a.date a.category a.numbers.now a.marks.now _ _ _ _ _ _ _ _ _
     (decides pair.before)
     pair.if3.left
-    col.before.side-members2.ensures
-    m.side-members.ensures
+    col.before.members2.ensures
+    m.members.ensures
     (net_asked _ _ _ a.category _ _ _ col.column-of.ensures dates.date-count.ensures net.net-of.ensures)
 
 pub read-net-spec : {M : Type 1} → statement M
@@ -132,10 +132,10 @@ read-net-spec =
     returns
     range-number-requires
     returns-2
-    side-members-requires
+    members-requires
     pair-number-requires
     returns-3
-    side-members-requires-2
+    members-requires-2
     column-of-requires
     date-count-requires
     net-of-requires

@@ -8,8 +8,8 @@ use Rattle.ledger.specs.Method.{is_blank}
 use Rattle.entries.specs.Cell.{cell_meant}
 use Rattle.store.specs.Column.{beside, cell_in, value_after, blank_after}
 use Rattle.store.proofs.ColumnLaws.{beside_reaches}
-use Rattle.entries.specs.Sums.{SummedFirst}
-use Rattle.entries.proofs.SumLaws.{none_first, one_further, all_first}
+use Rattle.net.specs.Walk.{SummedFirst}
+use Rattle.net.proofs.SideLaws.{none_first, one_further, all_first}
 use Rattle.net.proofs.periods.side_sum.Statement.{statement}
 use Rattle.net.proofs.periods.side_sum.Tie as tie
 

@@ -11,7 +11,7 @@ use Rattle.ledger.proofs.Lists.{filling_zero, fill, filled, filled_long}
 use Rattle.entries.specs.Sums.{Summed}
 use Rattle.entries.proofs.SumLaws.{none_yet, one_more, ends}
 use Rattle.net.specs.Walk.{side_value, period_net, period_mark}
-use Rattle.entries.proofs.SumLaws.{as_figure}
+use Rattle.net.proofs.SideLaws.{as_figure}
 use Rattle.net.proofs.periods.write_periods.Statement.{statement}
 use Rattle.net.proofs.periods.write_periods.Tie as tie
 

@@ -7,10 +7,9 @@ use lib.ListN.{length, get_or}
 use Rattle.ledger.specs.Store.{energy_of}
 use Rattle.ledger.specs.Calls.{dates_sum}
 use Rattle.store.specs.DayRows.{RowsFit}
-use Rattle.entries.specs.Sums.{SummedFirst}
-use Rattle.net.specs.Walk.{week_tot}
+use Rattle.net.specs.Walk.{SummedFirst, week_tot}
 use Rattle.store.proofs.DayLaws.{row_known, sum_there}
-use Rattle.entries.proofs.SumLaws.{none_first, one_further, all_first}
+use Rattle.net.proofs.SideLaws.{none_first, one_further, all_first}
 use Rattle.net.proofs.week.week_sum.Statement.{statement}
 use Rattle.net.proofs.week.week_sum.Tie as tie
 

@@ -19,7 +19,7 @@ abbrev start : tie.After-enough → tie.Start
 start c = c.before
 
 abbrev start-family : tie.After-enough2 → tie.Start
-start-family c = c.before.before.before
+start-family c = c.before.before.before.before
 
 abbrev after-enough : tie.After-own → tie.After-enough
 after-enough c = c.before.before.before
@@ -33,11 +33,11 @@ own-enough c = sym c.before.enough.ensures ∙ c.if1.true
 own-few : (c : tie.Else1) → is_enough (start c.before).args.count (start c.before).args.de-minimis ≡ false
 own-few c = sym c.before.enough.ensures ∙ c.if1.false
 
-family-enough : (c : tie.Then2) → is_enough (start-family c.before).args.family-count (start-family c.before).args.de-minimis ≡ true
-family-enough c = sym c.before.enough2.ensures ∙ c.if2.true
+family-enough : (c : tie.Then3) → is_enough (start-family c.before).args.family-count (start-family c.before).args.de-minimis ≡ true
+family-enough c = sym c.before.enough2.ensures ∙ c.if3.true
 
-family-few : (c : tie.Else2) → is_enough (start-family c.before).args.family-count (start-family c.before).args.de-minimis ≡ false
-family-few c = sym c.before.enough2.ensures ∙ c.if2.false
+family-few : (c : tie.Else3) → is_enough (start-family c.before).args.family-count (start-family c.before).args.de-minimis ≡ false
+family-few c = sym c.before.enough2.ensures ∙ c.if3.false
 
 -- an average as the code has it
 fits : (f : Flag) (d s n m v : ℕ) (r : ℤ) → 1 ≤ flag_number f → d < 1024 → is_enough n m ≡ true → Averaged s n → (v ≡ average s n) × (r ≡ remainder s n) →
@@ -87,14 +87,19 @@ entry-of-requires-2 c κs =
 returns-2 : tie.Need-returns-2
 unfolding fresh_of
 returns-2 c =
-    let tested = after-enough2 c.before in
-    rw (own-few tested.before, family-enough c.before.before.before)
+    let smart = (after-enough2 c.before).before in
+    let s = start-family (after-enough2 c.before) in
+    rw (own-few smart.before, smart.if2.taken, family-enough c.before.before.before)
     (c.entry-of2.ensures
     ∙ ap entry_of (c.before.pooled.ensures ∙ rw (c.before.before.average-up2.ensures.0, c.before.before.average-up2.ensures.1)))
 
 returns-3 : tie.Need-returns-3
 unfolding fresh_of
-returns-3 c = rw (own-few c.before.before, family-few c)
+returns-3 c = let smart = c.before.before in rw (own-few smart.before, smart.if2.true, family-few c)
+
+returns-4 : tie.Need-returns-4
+unfolding fresh_of
+returns-4 c = rw (own-few c.before, c.if2.false)
 
 pub shape-entry-spec : {M : Type 1} → statement M
 shape-entry-spec =
@@ -110,4 +115,5 @@ shape-entry-spec =
     pooled-requires
     entry-of-requires-2
     returns-2
-    returns-3)
+    returns-3
+    returns-4)

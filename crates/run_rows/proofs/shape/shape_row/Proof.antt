@@ -13,13 +13,13 @@ use Rattle.run_rows.proofs.shape.shape_row.Statement.{statement}
 use Rattle.run_rows.proofs.shape.shape_row.Tie as tie
 
 abbrev invariant-loop : tie.invariant-loop
-invariant-loop de-minimis date sums counts inherited at family-sums family-counts row₀ moved₀ p₀ row moved p =
+invariant-loop smart de-minimis date sums counts inherited at family-sums family-counts row₀ moved₀ p₀ row moved p =
     (p ≤ length row₀) × (length row ≡ length row₀)
-    × (row ≡ filling p (shape_at de-minimis date sums counts inherited at family-sums family-counts) row₀)
-    × (moved ≡ differing p (λ q. compared_entry (get_or row₀ q 0)) (shape_at de-minimis date sums counts inherited at family-sums family-counts))
+    × (row ≡ filling p (shape_at smart de-minimis date sums counts inherited at family-sums family-counts) row₀)
+    × (moved ≡ differing p (λ q. compared_entry (get_or row₀ q 0)) (shape_at smart de-minimis date sums counts inherited at family-sums family-counts))
 
 abbrev decreases-loop : tie.decreases-loop
-decreases-loop de-minimis date sums counts inherited at family-sums family-counts row₀ moved₀ p₀ row moved p = length row₀ - p
+decreases-loop smart de-minimis date sums counts inherited at family-sums family-counts row₀ moved₀ p₀ row moved p = length row₀ - p
 
 abbrev start : tie.At-loop invariant-loop decreases-loop → tie.Start invariant-loop decreases-loop
 start c = c.before.before.before.before.before.before.before
