@@ -51,6 +51,7 @@ impl Cell {
         }
     }
 
+    #[tactic(auto, unfolding(ledger::specs::Method::blank))]
     pub fn blank() -> Cell
         ensures { cell_meant result ≡ blank }
     {
@@ -64,6 +65,7 @@ impl Cell {
     }
 
     // Whether it is its date's own shape.
+    #[tactic(auto, unfolding(ledger::specs::Method::is_own_cell))]
     pub fn is_own(self) -> bool
         ensures { result ≡ is_own_cell (cell_meant self) }
     {
@@ -77,6 +79,7 @@ impl Cell {
     }
 
     // What a later date takes over: the same under flag E, and nothing from nothing.
+    #[tactic(auto, unfolding(ledger::specs::Method::carried))]
     pub fn carried(self) -> Cell
         ensures { cell_meant result ≡ carried (cell_meant self) }
     {
@@ -95,6 +98,7 @@ impl Cell {
     }
 }
 
+#[tactic(auto, unfolding(ledger::specs::Store::flag_number_of))]
 fn flag_number(entry: u64) -> u64
     ensures { result ≡ flag_number_of entry }
 {
@@ -139,6 +143,7 @@ pub fn letter(flag: Flag) -> u8
     }
 }
 
+#[tactic(auto, unfolding(ledger::specs::Store::cell_of_entry))]
 pub fn cell_of_entry(entry: u64) -> Cell
     ensures { cell_meant result ≡ cell_of_entry entry }
 {

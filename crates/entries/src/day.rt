@@ -11,6 +11,7 @@ pub fn lower_half(entry: u64) -> u32
     (entry % 4294967296) as u32
 }
 
+#[tactic(auto, unfolding(ledger::specs::Store::cell_of_entry, ledger::specs::Store::flag_number_of))]
 pub fn fresh_in(half: u32) -> u32
     ensures value { result ≡ is_fresh (cell_of_entry half).flag }
     ensures upper_bound { result ≤ 1 }
@@ -25,6 +26,7 @@ pub fn fresh_in(half: u32) -> u32
     0
 }
 
+#[tactic(auto, unfolding(ledger::specs::Store::cell_of_entry, ledger::specs::Store::flag_number_of))]
 pub fn blank_in(half: u32) -> u32
     ensures value { result ≡ is_blank (cell_of_entry half).flag }
     ensures upper_bound { result ≤ 1 }
@@ -45,6 +47,7 @@ pub fn origin_in(half: u32) -> u32
     half / 4096 % 1024
 }
 
+#[tactic(auto, unfolding(ledger::specs::Store::cell_of_entry))]
 pub fn value_in(entry: u64) -> u64
     ensures { Figure 4294967295 (cell_of_entry entry).value result }
 {
@@ -52,6 +55,7 @@ pub fn value_in(entry: u64) -> u64
 }
 
 // FRESH, BLANK and the oldest origin of a run date.
+#[tactic(auto, unfolding(ledger::specs::Store::day_entry))]
 pub fn day_entry(fresh: u64, blanks: u64, oldest: u64) -> u64
     requires { (fresh ≤ 96) × (blanks ≤ 96) × (oldest ≤ 65535) }
     ensures { result ≡ day_entry fresh blanks oldest }
@@ -60,6 +64,7 @@ pub fn day_entry(fresh: u64, blanks: u64, oldest: u64) -> u64
 }
 
 // TOT of a run date, which counts as one.
+#[tactic(auto, unfolding(ledger::specs::Store::tot_entry))]
 pub fn tot_entry(tot: u64) -> u64
     requires { tot < 281474976710656 }
     ensures { result ≡ tot_entry tot }
@@ -68,6 +73,7 @@ pub fn tot_entry(tot: u64) -> u64
 }
 
 // The Wh in an entry of TOT or OFF, or in a sum of such entries; 48 bits.
+#[tactic(auto, unfolding(ledger::specs::Store::energy_of))]
 pub fn energy_of(entry: u64) -> u64
     ensures { Figure 281474976710655 (energy_of entry) result }
 {
@@ -75,6 +81,7 @@ pub fn energy_of(entry: u64) -> u64
 }
 
 // And the number of run dates.
+#[tactic(auto, unfolding(ledger::specs::Store::run_dates_of))]
 pub fn run_dates_of(entry: u64) -> u64
     ensures { result ≡ run_dates_of entry }
 {
@@ -82,18 +89,21 @@ pub fn run_dates_of(entry: u64) -> u64
 }
 
 // FRESH of a day, BLANK, and both in one number.
+#[tactic(auto, unfolding(ledger::specs::Store::day_fresh))]
 pub fn day_fresh(entry: u64) -> u64
     ensures { result ≡ day_fresh entry }
 {
     entry % 65536
 }
 
+#[tactic(auto, unfolding(ledger::specs::Store::day_blanks))]
 pub fn day_blanks(entry: u64) -> u64
     ensures { result ≡ day_blanks entry }
 {
     entry / 65536 % 65536
 }
 
+#[tactic(auto, unfolding(ledger::specs::Store::counts_of))]
 pub fn day_counts(entry: u64) -> u64
     ensures { result ≡ counts_of entry }
 {

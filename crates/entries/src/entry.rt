@@ -7,12 +7,14 @@ use crate::cell::{Cell, cell_of_entry, entry_of};
 // The entry of the blank cell, as a constant.
 pub const BLANK_ENTRY: u64 = 2147483648;
 
+#[tactic(auto, unfolding(ledger::specs::Calls::carried_entry))]
 pub fn carried_entry(entry: u64) -> u64
     ensures { result ≡ carried_entry entry }
 {
     entry_of(cell_of_entry(entry).carried())
 }
 
+#[tactic(auto, unfolding(ledger::specs::Calls::is_own))]
 pub fn is_own(entry: u64) -> bool
     ensures { result ≡ is_own entry }
 {
@@ -20,6 +22,7 @@ pub fn is_own(entry: u64) -> bool
 }
 
 // A date not run counts as blank.
+#[tactic(auto, unfolding(ledger::specs::Calls::compared_entry))]
 pub fn compared_entry(entry: u64) -> u64
     ensures { result ≡ compared_entry entry }
 {
@@ -30,6 +33,7 @@ pub fn compared_entry(entry: u64) -> u64
 }
 
 // 1 where the cell moved: an entry holds all five fields, so that two cells are alike where their entries are.
+#[tactic(auto, unfolding(ledger::specs::Calls::moved_entry))]
 pub fn moved_entry(a: u64, b: u64) -> u64
     ensures { result ≡ moved_entry a b }
 {

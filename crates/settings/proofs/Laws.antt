@@ -1,7 +1,7 @@
 -- The bounds of opened settings.
 use Prim.Native.Nat.{ℕ, ◌+◌, ◌*◌, ◌≤◌, ◌<◌}
 use mathlib.Core.Path.{◌≡◌}
-use mathlib.Core.Bool.{true, false, ◌&&◌, and-eq-true_iff, and_false}
+use mathlib.Core.Bool.{true, false, ◌&&◌, and-eq-true_iff, and-false}
 use mathlib.Core.List.{List}
 use native.Mathlib.Omega.{arith}
 use lib.ListN.{length}
@@ -23,4 +23,4 @@ opened_bounds s h =
 -- fewer bytes than the header's are fewer than any least length
 pub short_unready : (s : List ℕ) → length s < header_length → settings_ready s ≡ false
 unfolding settings_ready settings_length
-short_unready s h = rw (lt-leb (header_length + 8 * categories_of s + dates_of s) (length s) (omega arith)) (and_false (is_opened s))
+short_unready s h = rw (lt-leb (header_length + 8 * categories_of s + dates_of s) (length s) (omega arith)) (and-false (is_opened s))

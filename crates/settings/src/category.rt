@@ -18,6 +18,7 @@ fn category_byte(settings: &[u8], category: u64, k: u64) -> u64
     byte_at(settings, HEADER_LENGTH + (8 * category + k))
 }
 
+#[tactic(auto, unfolding(ledger::specs::Method::is_smart, ledger::specs::Store::category_of, ledger::specs::Method::category_at))]
 pub fn is_smart(settings: &[u8], category: u64) -> bool
     requires { (settings_ready settings.now ≡ true) × (category < categories_of settings.now) }
     ensures { result ≡ is_smart (category_of settings.now category) }
@@ -25,6 +26,7 @@ pub fn is_smart(settings: &[u8], category: u64) -> bool
     category_byte(settings, category, 0) == 1
 }
 
+#[tactic(auto, unfolding(ledger::specs::Store::category_of, ledger::specs::Method::category_at))]
 pub fn quantity(settings: &[u8], category: u64) -> u64
     requires { (settings_ready settings.now ≡ true) × (category < categories_of settings.now) }
     ensures { result ≡ (category_of settings.now category).quantity }
@@ -32,6 +34,7 @@ pub fn quantity(settings: &[u8], category: u64) -> u64
     category_byte(settings, category, 3)
 }
 
+#[tactic(auto, unfolding(ledger::specs::Store::category_of, ledger::specs::Method::category_at))]
 pub fn window(settings: &[u8], category: u64) -> u64
     requires { (settings_ready settings.now ≡ true) × (category < categories_of settings.now) }
     ensures { result ≡ (category_of settings.now category).window }
@@ -39,6 +42,7 @@ pub fn window(settings: &[u8], category: u64) -> u64
     category_byte(settings, category, 5)
 }
 
+#[tactic(auto, unfolding(ledger::specs::Store::category_of, ledger::specs::Method::category_at))]
 pub fn de_minimis(settings: &[u8], category: u64) -> u64
     requires { (settings_ready settings.now ≡ true) × (category < categories_of settings.now) }
     ensures { result ≡ (category_of settings.now category).de_minimis }
@@ -47,6 +51,7 @@ pub fn de_minimis(settings: &[u8], category: u64) -> u64
 }
 
 // Whether b is of the family that a has, or would have with this quantity.
+#[tactic(auto, unfolding(ledger::specs::Method::same_family, ledger::specs::Method::is_smart, ledger::specs::Store::category_of, ledger::specs::Method::category_at))]
 fn in_family(settings: &[u8], quantity: u64, a: u64, b: u64) -> bool
     requires { (settings_ready settings.now ≡ true) × (a < categories_of settings.now) × (b < categories_of settings.now) }
     ensures { result ≡ same_family (with_quantity quantity (category_of settings.now a)) (category_of settings.now b) }
@@ -75,6 +80,7 @@ pub fn same_family(settings: &[u8], a: u64, b: u64) -> bool
 }
 
 // Whether b stands on a net's side of this quantity: in that family, and in a's group unless all groups are pooled.
+#[tactic(auto, unfolding(ledger::specs::Net::on_side, ledger::specs::Store::category_of, ledger::specs::Method::category_at))]
 pub fn on_side(settings: &[u8], all_groups: bool, quantity: u64, a: u64, b: u64) -> bool
     requires { (settings_ready settings.now ≡ true) × (a < categories_of settings.now) × (b < categories_of settings.now) }
     ensures { result ≡ on_side all_groups quantity (category_of settings.now a) (category_of settings.now b) }
@@ -89,6 +95,7 @@ pub fn on_side(settings: &[u8], all_groups: bool, quantity: u64, a: u64, b: u64)
 }
 
 // Whether the category is the Smart domestic one that an opted-out meter with these takes.
+#[tactic(auto, unfolding(ledger::specs::Fill::is_opted_out_shape, ledger::specs::Store::category_of, ledger::specs::Method::category_at))]
 pub fn is_opted_out_shape(
     settings: &[u8],
     category: u64,
@@ -114,6 +121,7 @@ pub fn is_opted_out_shape(
     category_byte(settings, category, 4) == connection
 }
 
+#[tactic(auto, unfolding(ledger::specs::Store::day_type_of))]
 pub fn day_type(settings: &[u8], date: u64) -> u64
     requires { (settings_ready settings.now ≡ true) × (date < dates_of settings.now) }
     ensures { result ≡ day_type_of settings.now date }

@@ -8,6 +8,7 @@ use crate::access::byte_at;
 use crate::sizes::{HEADER_LENGTH, settings_length};
 use metering::{calendar, range};
 
+#[tactic(auto, unfolding(ledger::specs::Store::word))]
 fn word(settings: &[u8], k: u64) -> u64
     requires { 2 * k + 1 < length settings.now }
     ensures { result ≡ word settings.now k }
@@ -15,6 +16,7 @@ fn word(settings: &[u8], k: u64) -> u64
     256 * byte_at(settings, 2 * k) + byte_at(settings, 2 * k + 1)
 }
 
+#[tactic(auto, unfolding(ledger::specs::Store::duration_of))]
 pub fn duration(settings: &[u8]) -> u64
     requires { header_length ≤ length settings.now }
     ensures { result ≡ duration_of settings.now }
@@ -22,6 +24,7 @@ pub fn duration(settings: &[u8]) -> u64
     word(settings, 0)
 }
 
+#[tactic(auto, unfolding(ledger::specs::Store::meters_of))]
 pub fn meter_count(settings: &[u8]) -> u64
     requires { header_length ≤ length settings.now }
     ensures { result ≡ meters_of settings.now }
@@ -29,6 +32,7 @@ pub fn meter_count(settings: &[u8]) -> u64
     word(settings, 1)
 }
 
+#[tactic(auto, unfolding(ledger::specs::Store::categories_of))]
 pub fn category_count(settings: &[u8]) -> u64
     requires { header_length ≤ length settings.now }
     ensures { result ≡ categories_of settings.now }
@@ -36,6 +40,7 @@ pub fn category_count(settings: &[u8]) -> u64
     word(settings, 2)
 }
 
+#[tactic(auto, unfolding(ledger::specs::Store::dates_of))]
 pub fn date_count(settings: &[u8]) -> u64
     requires { header_length ≤ length settings.now }
     ensures { result ≡ dates_of settings.now }
@@ -51,6 +56,7 @@ pub struct Window {
 }
 
 // By its number; 0 is none, and so is what is past the eighth.
+#[tactic(auto, unfolding(ledger::specs::Store::window_of))]
 pub fn window_of(settings: &[u8], number: u64) -> Window
     requires { header_length ≤ length settings.now }
     ensures { window_meant result ≡ window_of settings.now number }
@@ -64,6 +70,7 @@ pub fn window_of(settings: &[u8], number: u64) -> Window
     }
 }
 
+#[tactic(auto, unfolding(ledger::specs::Store::is_opened))]
 fn opened(settings: &[u8]) -> bool
     requires { header_length ≤ length settings.now }
     ensures { result ≡ is_opened settings.now }
@@ -81,6 +88,7 @@ fn opened(settings: &[u8]) -> bool
 }
 
 // A store of any bytes: fewer than the header's are too few to read its numbers.
+#[tactic(auto, unfolding(ledger::specs::Store::settings_ready))]
 pub fn settings_ready(settings: &[u8]) -> bool
     ensures { result ≡ settings_ready settings.now }
 {
@@ -94,6 +102,7 @@ pub fn settings_ready(settings: &[u8]) -> bool
     settings_length(category_count(settings), date_count(settings)) <= length
 }
 
+#[tactic(auto, unfolding(ledger::specs::Store::periods_of))]
 pub fn period_count(settings: &[u8]) -> u64
     requires { settings_ready settings.now ≡ true }
     ensures { result ≡ periods_of settings.now }

@@ -5,6 +5,7 @@ ghost use Rattle.ledger.specs.Store.{settings_ready, meters_ready, readings_read
 use crate::header::{category_count, date_count, meter_count, period_count};
 use crate::sizes::{cells_length, days_length, meters_length, readings_length};
 
+#[tactic(auto, unfolding(ledger::specs::Store::meters_ready))]
 pub fn meters_ready(settings: &[u8], meters: &[u64]) -> bool
     requires { settings_ready settings.now ≡ true }
     ensures { result ≡ meters_ready settings.now meters.now }
@@ -12,6 +13,7 @@ pub fn meters_ready(settings: &[u8], meters: &[u64]) -> bool
     meters_length(meter_count(settings)) <= meters.len() as u64
 }
 
+#[tactic(auto, unfolding(ledger::specs::Store::readings_ready))]
 pub fn readings_ready(settings: &[u8], readings: &[u64]) -> bool
     requires { settings_ready settings.now ≡ true }
     ensures { result ≡ readings_ready settings.now readings.now }
@@ -24,6 +26,7 @@ pub fn readings_ready(settings: &[u8], readings: &[u64]) -> bool
     least <= readings.len() as u64
 }
 
+#[tactic(auto, unfolding(ledger::specs::Store::cells_ready))]
 pub fn cells_ready(settings: &[u8], cells: &[u64]) -> bool
     requires { settings_ready settings.now ≡ true }
     ensures { result ≡ cells_ready settings.now cells.now }
@@ -36,6 +39,7 @@ pub fn cells_ready(settings: &[u8], cells: &[u64]) -> bool
     least <= cells.len() as u64
 }
 
+#[tactic(auto, unfolding(ledger::specs::Store::days_ready))]
 pub fn days_ready(settings: &[u8], days: &[u64]) -> bool
     requires { settings_ready settings.now ≡ true }
     ensures { result ≡ days_ready settings.now days.now }

@@ -5,6 +5,7 @@ ghost use Rattle.ledger.specs.Sizes.{settings_length, meters_length, readings_le
 // Of the settings, before the category records.
 pub const HEADER_LENGTH: u64 = 40;
 
+#[tactic(auto, unfolding(ledger::specs::Sizes::settings_length))]
 pub fn settings_length(categories: u64, dates: u64) -> u64
     requires { (categories ≤ 64) × (dates ≤ 800) }
     ensures { result ≡ settings_length categories dates }
@@ -12,6 +13,7 @@ pub fn settings_length(categories: u64, dates: u64) -> u64
     HEADER_LENGTH + 8 * categories + dates
 }
 
+#[tactic(auto, unfolding(ledger::specs::Sizes::meters_length))]
 pub fn meters_length(meters: u64) -> u64
     requires { meters ≤ 1024 }
     ensures { result ≡ meters_length meters }
@@ -19,6 +21,7 @@ pub fn meters_length(meters: u64) -> u64
     meters + 40 * meters
 }
 
+#[tactic(auto, unfolding(ledger::specs::Sizes::readings_length))]
 pub fn readings_length(meters: u64, dates: u64, periods: u64) -> u64
     requires { (meters ≤ 1024) × (dates ≤ 800) × (periods ≤ 96) }
     ensures { result ≡ readings_length meters dates periods }
@@ -26,6 +29,7 @@ pub fn readings_length(meters: u64, dates: u64, periods: u64) -> u64
     dates * meters * (1 + periods)
 }
 
+#[tactic(auto, unfolding(ledger::specs::Sizes::cells_length))]
 pub fn cells_length(categories: u64, dates: u64, periods: u64) -> u64
     requires { (categories ≤ 64) × (dates ≤ 800) × (periods ≤ 96) }
     ensures { result ≡ cells_length categories dates periods }
@@ -33,6 +37,7 @@ pub fn cells_length(categories: u64, dates: u64, periods: u64) -> u64
     dates * (categories * periods)
 }
 
+#[tactic(auto, unfolding(ledger::specs::Sizes::days_length))]
 pub fn days_length(categories: u64, dates: u64) -> u64
     requires { (categories ≤ 64) × (dates ≤ 800) }
     ensures { result ≡ days_length categories dates }

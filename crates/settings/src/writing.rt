@@ -11,6 +11,7 @@ ghost use Rattle.settings.specs.Opening.{opening_call, MinutesOfDay};
 use crate::sizes::HEADER_LENGTH;
 
 // Big-endian.
+#[tactic(auto, unfolding(ledger::specs::Store::word_bytes))]
 fn put_word(part: &mut [u8], at: usize, n: u64)
     requires { (at + 1 < length part.old) × (n < 65536) }
     ensures { part.new ≡ sets part.old at (word_bytes n) }
@@ -48,6 +49,7 @@ fn minute_at(windows: &[u64], k: usize) -> u64
 }
 
 // Eight windows behind the first four numbers.
+#[tactic(auto, unfolding(ledger::specs::Store::minute_bytes))]
 fn write_windows(settings: &mut [u8], windows: &[u64])
     requires minutes_of_day { MinutesOfDay windows.now }
     requires header_length_in_bounds { header_length ≤ length settings.old }
@@ -80,6 +82,7 @@ fn write_header(
     write_windows(settings, windows);
 }
 
+#[tactic(auto, unfolding(ledger::specs::Sizes::settings_length))]
 pub fn write_settings(
     settings: &mut [u8],
     terms: OpeningTerms,

@@ -39,6 +39,7 @@ pub fn beside(column: Column, category: u64) -> Column
 }
 
 // The place of the category's first cell of the date.
+#[tactic(auto, unfolding(ledger::specs::Store::cell_index))]
 fn first_cell(column: Column, date: u64) -> u64
     requires { (column.category < column.categories) × (date * (column.categories * column.periods) + column.categories * column.periods < 2 ^ 64) }
     ensures { result ≡ place_in column date 1 }
@@ -47,6 +48,7 @@ fn first_cell(column: Column, date: u64) -> u64
 }
 
 // The category's cell of the period that comes after `k` others.
+#[tactic(auto, unfolding(ledger::specs::Store::cell_of_entry))]
 pub fn cell_at(cells: &[u64], column: Column, date: u64, k: u64) -> Cell
     requires { Reaches cells.now column date × (k < column.periods) }
     ensures { CellRead (cell_in column cells.now date (suc k)) result }

@@ -23,6 +23,7 @@ pub struct DayEntries {
     pub off: u64,
 }
 
+#[tactic(auto, unfolding(ledger::specs::Store::day_index))]
 pub fn day_index(dates: u64, category: u64, row: u64, date: u64) -> u64
     requires { (dates ≤ 800) × (category < 64) × (row < 4) × (date < dates) }
     ensures { result ≡ day_index dates category row date }
@@ -31,6 +32,7 @@ pub fn day_index(dates: u64, category: u64, row: u64, date: u64) -> u64
 }
 
 // Whether the date is run, by the days alone.
+#[tactic(auto, unfolding(ledger::specs::Store::is_run_day))]
 pub fn is_run_day(dates: u64, category: u64, days: &[u64], date: u64) -> bool
     requires { (dates ≤ 800) × (category < 64) × (date < dates) × (day_index dates category day_row date < length days.now) }
     ensures { result ≡ is_run_day dates category days.now date }
@@ -38,6 +40,7 @@ pub fn is_run_day(dates: u64, category: u64, days: &[u64], date: u64) -> bool
     entry_at(days, day_index(dates, category, DAY, date)) != 0
 }
 
+#[tactic(auto, unfolding(ledger::specs::Store::coverage_of))]
 pub fn coverage_of(day: u64, sum: u64) -> Coverage
     ensures { coverage_meant result ≡ coverage_of day sum }
 {

@@ -5,6 +5,7 @@ ghost use Rattle.ledger.specs.Calls.{meters_unready, run_unready, cells_unready,
 use settings::header::settings_ready;
 use settings::ready::{cells_ready, days_ready, meters_ready, readings_ready};
 
+#[tactic(auto, unfolding(ledger::specs::Calls::meters_unready))]
 pub fn meters_unready(settings: &[u8], meters: &[u64], readings: &[u64]) -> bool
     ensures { result ≡ meters_unready settings.now meters.now readings.now }
 {
@@ -35,6 +36,7 @@ pub fn run_unready(
     !days_ready(settings, days)
 }
 
+#[tactic(auto, unfolding(ledger::specs::Calls::cells_unready))]
 pub fn cells_unready(settings: &[u8], cells: &[u64]) -> bool
     ensures { result ≡ cells_unready settings.now cells.now }
 {
@@ -44,6 +46,7 @@ pub fn cells_unready(settings: &[u8], cells: &[u64]) -> bool
     !cells_ready(settings, cells)
 }
 
+#[tactic(auto, unfolding(ledger::specs::Calls::days_unready))]
 pub fn days_unready(settings: &[u8], days: &[u64]) -> bool
     ensures { result ≡ days_unready settings.now days.now }
 {

@@ -1,4 +1,6 @@
 // The lent parts beside the settings: where each thing stands in meters, readings, cells and days; and what each call answers.
+#![tactic(auto)]
+
 pub mod access;
 pub mod column;
 pub mod day_rows;

@@ -9,6 +9,7 @@ ghost use Rattle.ledger.specs.Store.{mpan_at, slot_of, registration_at, registra
 use crate::access::{entry_at, put_entry};
 
 // The first slot that has the MPAN or is free, else the number of slots.
+#[tactic(auto, unfolding(ledger::specs::Store::slot_of))]
 pub fn slot_of(slots: u64, mpan: u64, meters: &[u64]) -> u64
     requires { slots ≤ length meters.now }
     ensures { result ≡ slot_of slots mpan meters.now }
@@ -27,6 +28,7 @@ pub fn slot_of(slots: u64, mpan: u64, meters: &[u64]) -> u64
     slots
 }
 
+#[tactic(auto, unfolding(ledger::specs::Store::mpan_at))]
 pub fn has_mpan(meters: &[u64], slot: u64, mpan: u64) -> bool
     requires { slot < length meters.now }
     ensures { result ≡ eqb (mpan_at meters.now slot) mpan }
@@ -35,6 +37,7 @@ pub fn has_mpan(meters: &[u64], slot: u64, mpan: u64) -> bool
 }
 
 // One number for a date and minute, in minutes from the beginning of date 0.
+#[tactic(auto, unfolding(ledger::specs::Checks::moment_of))]
 pub fn moment_of(date: u64, minute: u64) -> u64
     requires { (date < 800) × (minute < 1440) }
     ensures { result ≡ moment_of date minute }
@@ -43,6 +46,7 @@ pub fn moment_of(date: u64, minute: u64) -> u64
 }
 
 // A registration starts on its date at minute 0, else on the next.
+#[tactic(auto, unfolding(ledger::specs::Checks::start_of))]
 pub fn start_of(date: u64, minute: u64) -> u64
     requires { date < 18446744073709551615 }
     ensures { result ≡ start_of date minute }
@@ -53,6 +57,7 @@ pub fn start_of(date: u64, minute: u64) -> u64
     date + 1
 }
 
+#[tactic(auto, unfolding(ledger::specs::Store::registration_index))]
 fn registration_index(slots: u64, slot: u64, k: u64) -> u64
     requires { (slots ≤ 1024) × (slot < slots) × (k < 8) }
     ensures { result ≡ registration_index slots slot k }
@@ -67,6 +72,7 @@ fn registration_entry(slots: u64, meters: &[u64], slot: u64, k: u64, field: u64)
     entry_at(meters, registration_index(slots, slot, k) + field)
 }
 
+#[tactic(auto, unfolding(ledger::specs::Store::registration_at))]
 fn registration_moment(slots: u64, meters: &[u64], slot: u64, k: u64) -> u64
     requires { (slots ≤ 1024) × (slot < slots) × (meters_length slots ≤ length meters.now) × (k < 8) }
     ensures { result ≡ (registration_at slots meters.now slot k).moment }
@@ -74,6 +80,7 @@ fn registration_moment(slots: u64, meters: &[u64], slot: u64, k: u64) -> u64
     registration_entry(slots, meters, slot, k, 0)
 }
 
+#[tactic(auto, unfolding(ledger::specs::Checks::starts))]
 fn registration_start(slots: u64, meters: &[u64], slot: u64, k: u64) -> u64
     requires { (slots ≤ 1024) × (slot < slots) × (meters_length slots ≤ length meters.now) × (k < 8) }
     ensures { result ≡ starts (registration_at slots meters.now slot k) }
@@ -82,6 +89,7 @@ fn registration_start(slots: u64, meters: &[u64], slot: u64, k: u64) -> u64
     start_of(moment / 1440, moment % 1440)
 }
 
+#[tactic(auto, unfolding(ledger::specs::Store::registration_at))]
 pub fn registration_category(slots: u64, meters: &[u64], slot: u64, k: u64) -> u64
     requires { (slots ≤ 1024) × (slot < slots) × (meters_length slots ≤ length meters.now) × (k < 8) }
     ensures { result ≡ (registration_at slots meters.now slot k).category }
@@ -89,6 +97,7 @@ pub fn registration_category(slots: u64, meters: &[u64], slot: u64, k: u64) -> u
     registration_entry(slots, meters, slot, k, 1)
 }
 
+#[tactic(auto, unfolding(ledger::specs::Store::registration_at))]
 pub fn registration_sender(slots: u64, meters: &[u64], slot: u64, k: u64) -> u64
     requires { (slots ≤ 1024) × (slot < slots) × (meters_length slots ≤ length meters.now) × (k < 8) }
     ensures { result ≡ (registration_at slots meters.now slot k).sender }
@@ -96,6 +105,7 @@ pub fn registration_sender(slots: u64, meters: &[u64], slot: u64, k: u64) -> u64
     registration_entry(slots, meters, slot, k, 2)
 }
 
+#[tactic(auto, unfolding(ledger::specs::Store::registration_at))]
 pub fn registration_status(slots: u64, meters: &[u64], slot: u64, k: u64) -> u64
     requires { (slots ≤ 1024) × (slot < slots) × (meters_length slots ≤ length meters.now) × (k < 8) }
     ensures { result ≡ (registration_at slots meters.now slot k).status }
@@ -103,6 +113,7 @@ pub fn registration_status(slots: u64, meters: &[u64], slot: u64, k: u64) -> u64
     registration_entry(slots, meters, slot, k, 3)
 }
 
+#[tactic(auto, unfolding(ledger::specs::Store::registration_at))]
 pub fn registration_limit(slots: u64, meters: &[u64], slot: u64, k: u64) -> u64
     requires { (slots ≤ 1024) × (slot < slots) × (meters_length slots ≤ length meters.now) × (k < 8) }
     ensures { result ≡ (registration_at slots meters.now slot k).limit }
@@ -132,6 +143,7 @@ fn takes_over(bound: u64, best_key: u64, key: u64) -> bool
 
 // Which registration of a slot is the latest of those not after a bound; 8 for none. With none yet the best key is 0, which every key
 // reaches.
+#[tactic(auto, unfolding(ledger::specs::Store::registrations_at, crate::specs::Meters::indexed, ledger::specs::Checks::latest_from))]
 fn latest_index(slots: u64, meters: &[u64], slot: u64, by_start: bool, bound: u64) -> u64
     requires { (slots ≤ 1024) × (slot < slots) × (meters_length slots ≤ length meters.now) }
     ensures { (result ≤ 8) × (indexed slots meters.now slot result ≡ latest_from (key_by by_start) bound none (registrations_at slots meters.now slot)) }
@@ -154,6 +166,7 @@ fn latest_index(slots: u64, meters: &[u64], slot: u64, by_start: bool, bound: u6
 }
 
 // Which one gives category, status and limit on a date.
+#[tactic(auto, unfolding(ledger::specs::Checks::in_force))]
 pub fn in_force_index(slots: u64, meters: &[u64], slot: u64, date: u64) -> u64
     requires { (slots ≤ 1024) × (slot < slots) × (meters_length slots ≤ length meters.now) }
     ensures { (result ≤ 8) × (indexed slots meters.now slot result ≡ in_force date (registrations_at slots meters.now slot)) }
@@ -162,6 +175,7 @@ pub fn in_force_index(slots: u64, meters: &[u64], slot: u64, date: u64) -> u64
 }
 
 // Which one gives the sender: that of the date's midday.
+#[tactic(auto, unfolding(ledger::specs::Checks::appointed))]
 pub fn appointed_index(slots: u64, meters: &[u64], slot: u64, date: u64) -> u64
     requires { (slots ≤ 1024) × (slot < slots) × (meters_length slots ≤ length meters.now) × (date < 800) }
     ensures { (result ≤ 8) × (indexed slots meters.now slot result ≡ appointed date (registrations_at slots meters.now slot)) }
@@ -169,6 +183,7 @@ pub fn appointed_index(slots: u64, meters: &[u64], slot: u64, date: u64) -> u64
     latest_index(slots, meters, slot, false, moment_of(date, 720))
 }
 
+#[tactic(auto, unfolding(ledger::specs::Store::registrations_at))]
 pub fn used_count(slots: u64, meters: &[u64], slot: u64) -> u64
     requires { (slots ≤ 1024) × (slot < slots) × (meters_length slots ≤ length meters.now) }
     ensures { result ≡ length (registrations_at slots meters.now slot) }
@@ -184,6 +199,7 @@ pub fn used_count(slots: u64, meters: &[u64], slot: u64) -> u64
 }
 
 // Whether a start is not after that of the slot's last registration.
+#[tactic(auto, unfolding(ledger::specs::Store::registrations_at, ledger::specs::Checks::not_after_last))]
 pub fn start_not_after_last(slots: u64, meters: &[u64], slot: u64, start: u64) -> bool
     requires { (slots ≤ 1024) × (slot < slots) × (meters_length slots ≤ length meters.now) }
     ensures { result ≡ not_after_last start false (registrations_at slots meters.now slot) }
@@ -200,6 +216,7 @@ pub fn start_not_after_last(slots: u64, meters: &[u64], slot: u64, start: u64) -
     answer
 }
 
+#[tactic(auto, unfolding(ledger::specs::Sizes::meters_length, ledger::specs::Store::put_registration))]
 pub fn put_registration(
     slots: u64,
     meters: &mut [u64],
