@@ -5,6 +5,7 @@ ghost use Rattle.ledger.specs.Calls.{wrapping_sum, raised};
 
 use std::num::wrapping_add_u64;
 
+#[tactic(auto, unfolding(ledger::specs::Calls::wrapping_sum))]
 fn raise_all(sums: &mut [u64], by: u64)
     ensures { sums.new ≡ tabulate (length sums.old) (λ k. wrapping_sum (slice_index sums.old k) by) }
 {

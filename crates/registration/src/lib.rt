@@ -1,4 +1,6 @@
 // Registration: the checks in pieces, each a number (0 says that all passed), then one more registration in the meter's slot.
+#![tactic(auto)]
+
 ghost use Rattle.std.specs.Prelude.{◌≡◌, false, cond, ◌&&◌, ◌<◌, ◌≤◌, leb, length};
 ghost use Rattle.store.specs.Outcome.{answer_of};
 ghost use Rattle.registration.specs.Registration.{registration_call};
@@ -18,6 +20,7 @@ use store::outcome::Outcome;
 use store::readings::held_from;
 
 // 16: a field out of range.
+#[tactic(auto, unfolding(ledger::specs::Checks::fields_number))]
 fn fields_number(settings: &[u8], start: u64, minute: u64, category: u64, status: u64) -> u64
     requires { header_length ≤ length settings.now }
     ensures { result ≡ fields_number (dates_of settings.now) (categories_of settings.now) start minute category status }
@@ -38,6 +41,7 @@ fn fields_number(settings: &[u8], start: u64, minute: u64, category: u64, status
 }
 
 // 10, 11, 12, of a known meter.
+#[tactic(auto, unfolding(ledger::specs::Checks::known_number))]
 fn known_number(
     slots: u64,
     dates: u64,
@@ -63,6 +67,7 @@ fn known_number(
 }
 
 // 8, of an MPAN that no slot is left for, or those of a known meter.
+#[tactic(auto, unfolding(ledger::specs::Sizes::meters_length))]
 fn meter_number(
     settings: &[u8],
     meters: &[u64],
@@ -93,6 +98,7 @@ fn meter_number(
 }
 
 // How many registrations an MPAN has: a free slot has none, whatever its entries hold.
+#[tactic(auto, unfolding(ledger::specs::Sizes::meters_length))]
 fn used_by(slots: u64, meters: &[u64], mpan: u64, slot: u64) -> u64
     requires { (slots ≤ 1024) × (slot < slots) × (meters_length slots ≤ length meters.now) × (slot ≡ slot_of slots mpan meters.now) }
     ensures { result ≡ cond (known_at slots mpan meters.now) (length (registrations_at slots meters.now slot)) 0 }
@@ -103,6 +109,7 @@ fn used_by(slots: u64, meters: &[u64], mpan: u64, slot: u64) -> u64
     used_count(slots, meters, slot)
 }
 
+#[tactic(auto, unfolding(ledger::specs::Sizes::meters_length))]
 pub fn register(
     settings: &[u8],
     meters: &mut [u64],

@@ -9,6 +9,7 @@ use entries::cell::{Cell, entry_of};
 use entries::entry;
 use metering::average::average_up;
 
+#[tactic(auto, unfolding(ledger::specs::Method::is_enough))]
 fn enough(count: u64, de_minimis: u64) -> bool
     ensures { result ≡ is_enough count de_minimis }
 {
@@ -19,6 +20,7 @@ fn enough(count: u64, de_minimis: u64) -> bool
 }
 
 // The entry of a category and period: its own average, the family's, or what the date takes over.
+#[tactic(auto, unfolding(ledger::specs::Method::fresh_of))]
 fn shape_entry(
     smart: bool,
     de_minimis: u64,
