@@ -8,6 +8,7 @@ use settings::header::category_count;
 use store::lent::days_unready;
 
 // 1 and 15.
+#[tactic(auto, unfolding(ledger::specs::Checks::band_check, ledger::specs::Checks::totals_in_range))]
 pub fn search_number(settings: &[u8], days: &[u64], category: u64) -> u64
     ensures { result ≡ band_check (days_unready settings.now days.now) (totals_in_range (categories_of settings.now) category) }
 {

@@ -11,7 +11,7 @@ use store::access::entry_at;
 use store::day_rows::{TOT, day_index, is_run_day};
 
 // TOT from `least` to `most`, both included, on dates of a day type.
-#[derive(Drop)]
+#[derive(Clone, Copy)]
 pub struct Sought {
     pub day_type: u64,
     pub least: u64,

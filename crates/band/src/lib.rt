@@ -1,4 +1,6 @@
 // The band search (change request 2026-14): the run dates of a day type whose TOT for a category lies from one end to the other.
+#![tactic(auto)]
+
 mod checks;
 mod dates;
 

@@ -3,7 +3,7 @@ ghost use Rattle.std.specs.Prelude.{◌≡◌};
 ghost use Rattle.commands.specs.Commands.{parts_suffice};
 
 // The most meters, and the most periods over all dates.
-#[derive(Drop)]
+#[derive(Clone, Copy)]
 pub struct Capacity {
     pub meters: u64,
     pub date_periods: u64,

@@ -1,4 +1,6 @@
 // The reads that go by the days: totals and coverage. They look at the lent settings and days, and at no cell.
+#![tactic(auto)]
+
 ghost use Rattle.std.specs.Prelude.{◌≡◌};
 ghost use Rattle.ledger.specs.Ledger.{answer, totals_are, coverage_is};
 ghost use Rattle.ledger.specs.Calls.{day_verdict, totals_for, coverage_for};

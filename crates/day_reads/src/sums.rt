@@ -27,6 +27,7 @@ fn stretch_sum(days: &[u64], first: u64, count: u64) -> u64
 }
 
 // Over the date, whose entry stands at `at`, and up to `most` - 1 dates before it.
+#[tactic(auto, unfolding(ledger::specs::Calls::dates_sum))]
 pub fn dates_sum(days: &[u64], at: u64, date: u64, most: u64) -> u64
     requires { (date < 800) × (date ≤ at) × (at < length days.now) }
     ensures { result ≡ dates_sum most date at days.now }

@@ -41,6 +41,7 @@ fn annual_of(sum: u64, days: u64) -> u64
 }
 
 // From a date's entries, and from sums of them over a week and a year. The year has no OFF.
+#[tactic(auto, unfolding(ledger::specs::Store::totals_of))]
 fn totals_from(number: u64, entries: DayEntries, week: u64, off_week: u64, year: u64) -> Totals
     ensures { totals_meant result ≡ totals_of number (entries_meant entries) week off_week year }
 {

@@ -7,7 +7,7 @@ ghost use Rattle.entries.specs.Cell.{flag_meant, cell_meant};
 
 use metering::average::Average;
 
-#[derive(Drop)]
+#[derive(Clone, Copy)]
 pub enum Flag {
     A,
     D,
@@ -15,7 +15,7 @@ pub enum Flag {
     N,
 }
 
-#[derive(Drop)]
+#[derive(Clone, Copy)]
 pub struct Cell {
     pub flag: Flag,
     pub value: u64,

@@ -12,7 +12,7 @@ use engine::{
 };
 
 // The fields stand at the front of the array.
-#[derive(Drop)]
+#[derive(Clone, Copy)]
 pub struct Numbers {
     pub number: u64,
     pub fields: [i64; 11],

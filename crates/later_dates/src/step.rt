@@ -1,7 +1,7 @@
 // What passing a date does.
 ghost use Rattle.std.specs.Prelude.{◌≡◌, false, eqb};
 
-#[derive(Drop)]
+#[derive(Clone, Copy)]
 pub struct Step {
     pub moved: u64,
     pub stop: bool,

@@ -1,4 +1,6 @@
 // A row copied, what later dates inherit from one, and a later run date's row.
+#![tactic(auto)]
+
 ghost use Rattle.std.specs.Prelude.{◌≡◌, ◌+◌, ◌≤◌, length, get_or};
 ghost use Rattle.ledger.specs.Table.{tabulate, filling};
 ghost use Rattle.ledger.specs.Calls.{carried_entry, differing, followed_entry, inherited_beyond, overwritten};
@@ -29,6 +31,7 @@ pub fn carry_row(cells: &[u64], at: usize, row_length: usize, inherited: &mut [u
     }
 }
 
+#[tactic(auto, unfolding(ledger::specs::Calls::followed_entry))]
 fn followed(old: u64, inherited: u64) -> u64
     ensures { result ≡ followed_entry old inherited }
 {
@@ -38,6 +41,7 @@ fn followed(old: u64, inherited: u64) -> u64
     inherited
 }
 
+#[tactic(auto, unfolding(ledger::specs::Calls::inherited_beyond))]
 fn inherited_beyond(old: u64, inherited: u64) -> u64
     ensures { result ≡ inherited_beyond old inherited }
 {

@@ -2,7 +2,7 @@
 ghost use Rattle.std.specs.Prelude.{◌≡◌, ◌*◌, ◌<◌, ◌^◌};
 ghost use Rattle.metering.specs.Average.{average, remainder, annual};
 
-#[derive(Drop)]
+#[derive(Clone, Copy)]
 pub struct Average {
     pub value: u64,
     pub remainder: i64,

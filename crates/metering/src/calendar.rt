@@ -74,7 +74,7 @@ fn ended_by(duration: u64, minute: u64) -> u64
 }
 
 // Periods that stand side by side: how many come before them, and how many they are.
-#[derive(Drop)]
+#[derive(Clone, Copy)]
 pub struct Stretch {
     pub first: u64,
     pub count: u64,

@@ -10,14 +10,14 @@ use entries::cell::Flag;
 use store::column::{Column, beside, cell_at};
 
 // The cells of one period, summed over one side: their values, and how many of them are N.
-#[derive(Drop)]
+#[derive(Clone, Copy)]
 pub struct SideSum {
     pub value: u64,
     pub blanks: u64,
 }
 
 // The values of a date's cells, summed over each side.
-#[derive(Drop)]
+#[derive(Clone, Copy)]
 pub struct DaySums {
     pub import: u64,
     pub export: u64,

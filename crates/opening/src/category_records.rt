@@ -7,6 +7,7 @@ ghost use Rattle.ledger.specs.Ledger.{answer, accepted};
 use metering::range;
 use store::outcome::Outcome;
 
+#[tactic(auto, unfolding(ledger::specs::Checks::same_key))]
 fn same_key(records: &[u8], i: usize, k: usize) -> bool
     requires { (8 * i + 8 ≤ length records.now) × (8 * k + 8 ≤ length records.now) }
     ensures { result ≡ same_key records.now i k }
@@ -43,6 +44,7 @@ fn key_taken(records: &[u8], i: usize) -> bool
     false
 }
 
+#[tactic(auto, unfolding(ledger::specs::Checks::category_number, ledger::specs::Checks::record_at))]
 fn category_number(windows: u64, records: &[u8], i: usize) -> u64
     requires { 8 * i + 8 ≤ length records.now }
     ensures { result ≡ category_number windows records.now i }

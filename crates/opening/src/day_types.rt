@@ -7,6 +7,7 @@ ghost use Rattle.ledger.specs.Ledger.{answer, accepted};
 use metering::range;
 use store::outcome::Outcome;
 
+#[tactic(auto, unfolding(ledger::specs::Checks::day_type_number))]
 fn day_type_number(day_types: &[u8], i: usize) -> u64
     requires { i < length day_types.now }
     ensures { result ≡ day_type_number day_types.now i }

@@ -1,4 +1,6 @@
 // Opening: the sizes, the windows, the category records and the day types are checked and kept, and the rest of the store is emptied.
+#![tactic(auto)]
+
 mod category_records;
 mod day_types;
 mod sizes;

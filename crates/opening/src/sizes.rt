@@ -10,7 +10,7 @@ use settings::sizes::{cells_length, days_length, meters_length, readings_length,
 use settings::writing::OpeningTerms;
 
 // One length for each part.
-#[derive(Drop)]
+#[derive(Clone, Copy)]
 pub struct Lengths {
     pub settings: u64,
     pub meters: u64,
@@ -20,6 +20,7 @@ pub struct Lengths {
 }
 
 // Windows are no part of it.
+#[tactic(auto, unfolding(ledger::specs::Checks::sizes_valid))]
 pub fn sizes_valid(terms: OpeningTerms, category_records: &[u8], day_types: &[u8]) -> bool
     ensures { result ≡ sizes_valid (opening_call terms [] category_records.now day_types.now) }
 {

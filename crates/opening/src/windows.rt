@@ -7,6 +7,7 @@ ghost use Rattle.ledger.specs.Ledger.{answer, accepted};
 use metering::calendar;
 use store::outcome::Outcome;
 
+#[tactic(auto, unfolding(ledger::specs::Checks::window_number))]
 fn window_number(duration: u64, windows: &[u64], i: usize) -> u64
     requires { (0 < duration) × (2 * i < length windows.now) }
     ensures { result ≡ window_number duration windows.now i }

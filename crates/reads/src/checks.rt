@@ -9,6 +9,7 @@ use settings::header::{category_count, date_count, period_count};
 use store::column::{column_of, ran_on};
 use store::lent::cells_unready;
 
+#[tactic(auto, unfolding(ledger::specs::Checks::first_number))]
 pub fn first_number(first: u64, second: u64) -> u64
     ensures { result ≡ first_number first second }
 {
@@ -30,6 +31,7 @@ pub fn date_number(settings: &[u8], date: u64) -> u64
 }
 
 // 1: too short or unopened; then 9.
+#[tactic(auto, unfolding(ledger::specs::Checks::run_check))]
 fn lent_number(settings: &[u8], cells: &[u64], date: u64) -> u64
     ensures { result ≡ run_check (cells_unready settings.now cells.now) (dates_of settings.now) date }
 {
@@ -40,6 +42,7 @@ fn lent_number(settings: &[u8], cells: &[u64], date: u64) -> u64
 }
 
 // 15, by the category alone.
+#[tactic(auto, unfolding(ledger::specs::Checks::totals_in_range))]
 pub fn category_number(settings: &[u8], category: u64) -> u64
     requires { settings_ready settings.now ≡ true }
     ensures { result ≡ cond (not (totals_in_range (categories_of settings.now) category)) 15 0 }
@@ -51,6 +54,7 @@ pub fn category_number(settings: &[u8], category: u64) -> u64
 }
 
 // Whether a part is too short, or one of two lists that take P entries each, or the store is unopened. The lists are told by their lengths.
+#[tactic(auto, unfolding(ledger::specs::Checks::lists_short))]
 fn too_short(settings: &[u8], cells: &[u64], first: u64, second: u64) -> bool
     ensures { result ≡ (cells_unready settings.now cells.now || lists_short (periods_of settings.now) first second) }
 {
@@ -84,6 +88,7 @@ pub fn range_number(
 }
 
 // 15, for a cell read.
+#[tactic(auto, unfolding(ledger::specs::Checks::cell_in_range))]
 fn period_number(settings: &[u8], category: u64, period: u64) -> u64
     requires { settings_ready settings.now ≡ true }
     ensures { result ≡ cond (not (cell_in_range (categories_of settings.now) (periods_of settings.now) category period)) 15 0 }
@@ -98,6 +103,7 @@ fn period_number(settings: &[u8], category: u64, period: u64) -> u64
 }
 
 // 14: the date is not run, which every category's column says.
+#[tactic(auto, unfolding(ledger::specs::Store::row_length))]
 pub fn run_number(settings: &[u8], cells: &[u64], date: u64) -> u64
     requires { (settings_ready settings.now ≡ true) × (cells_ready settings.now cells.now ≡ true) × (date < dates_of settings.now) }
     ensures { result ≡ cond (not (is_run_at (row_length settings.now) cells.now date)) 14 0 }
@@ -108,6 +114,7 @@ pub fn run_number(settings: &[u8], cells: &[u64], date: u64) -> u64
     0
 }
 
+#[tactic(auto, unfolding(ledger::specs::Calls::cell_verdict))]
 pub fn cell_check(settings: &[u8], cells: &[u64], date: u64, category: u64, period: u64) -> u64
     ensures { result ≡ (cell_verdict settings.now cells.now date category period).number }
 {

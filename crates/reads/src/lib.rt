@@ -1,4 +1,6 @@
 // The reads of a cell and of a row; they only look at what they are lent. The cell's checks serve other calls on cells as well.
+#![tactic(auto)]
+
 ghost use Rattle.std.specs.Prelude.{◌≡◌};
 ghost use Rattle.ledger.specs.Ledger.{answer, cell_is};
 ghost use Rattle.ledger.specs.Calls.{cell_verdict, cell_for};
@@ -11,6 +13,7 @@ use store::outcome::CellOutcome;
 pub mod checks;
 pub mod row;
 
+#[tactic(auto, unfolding(ledger::specs::Calls::cell_verdict, ledger::specs::Calls::cell_for))]
 pub fn read_cell(
     settings: &[u8],
     cells: &[u64],

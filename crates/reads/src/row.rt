@@ -31,6 +31,7 @@ fn shown_number(settings: &[u8], cells: &[u64], date: u64, category: u64, from_d
 }
 
 // The number of the first failed check; 0 for none.
+#[tactic(auto, unfolding(ledger::specs::Calls::row_verdict, ledger::specs::Checks::row_check, ledger::specs::Calls::draft_unready))]
 fn row_number(
     settings: &[u8],
     cells: &[u64],
@@ -51,6 +52,7 @@ fn row_number(
 }
 
 // Where the row starts in a draft.
+#[tactic(auto, unfolding(ledger::specs::Calls::draft_start))]
 fn draft_start(settings: &[u8], category: u64) -> usize
     requires { (settings_ready settings.now ≡ true) × (category < categories_of settings.now) }
     ensures { result ≡ draft_start settings.now category }
@@ -59,6 +61,7 @@ fn draft_start(settings: &[u8], category: u64) -> usize
 }
 
 // And among the cells.
+#[tactic(auto, unfolding(ledger::specs::Calls::published_start))]
 fn published_start(settings: &[u8], date: u64, category: u64) -> usize
     requires { (settings_ready settings.now ≡ true) × (date < dates_of settings.now) × (category < categories_of settings.now) }
     ensures { result ≡ published_start settings.now date category }

@@ -1,3 +1,5 @@
 // A date's sums and counts, and its row of cells made from them.
+#![tactic(auto)]
+
 pub mod sums;
 pub mod write;

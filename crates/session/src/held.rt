@@ -1,6 +1,6 @@
 // What a dialogue holds between two commands.
 
-#[derive(Drop)]
+#[derive(Clone, Copy)]
 pub enum Stage {
     // There may be a command at hand.
     Going,
@@ -18,7 +18,7 @@ pub enum Stage {
 
 // The input block's next byte and the one past its last; how much of the lent category records
 // and day types is collected; how much of the output block waits; how many turns there may be yet.
-#[derive(Drop)]
+#[derive(Clone, Copy)]
 pub struct Session {
     pub at: usize,
     pub end: usize,

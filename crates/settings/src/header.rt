@@ -49,7 +49,7 @@ pub fn date_count(settings: &[u8]) -> u64
 }
 
 // An off-peak window, from its start to its end minute.
-#[derive(Drop)]
+#[derive(Clone, Copy)]
 pub struct Window {
     pub start: u64,
     pub end: u64,

@@ -32,7 +32,7 @@ fn copy(part: &mut [u8], at: usize, source: &[u8])
 }
 
 // The numbers of an opening. The minutes of its windows, its category records and its day types are lent beside them.
-#[derive(Drop)]
+#[derive(Clone, Copy)]
 pub struct OpeningTerms {
     pub duration: u64,
     pub meters: u64,

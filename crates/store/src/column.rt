@@ -9,7 +9,7 @@ use entries::cell::{Cell, cell_of_entry};
 use settings::header::{category_count, period_count};
 
 // One category among `categories`, each with `periods` cells a date.
-#[derive(Drop)]
+#[derive(Clone, Copy)]
 pub struct Column {
     pub categories: u64,
     pub periods: u64,

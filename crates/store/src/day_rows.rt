@@ -16,7 +16,7 @@ pub const TOT: u64 = 2;
 pub const OFF: u64 = 3;
 
 // What a date has in them beside its sums.
-#[derive(Drop)]
+#[derive(Clone, Copy)]
 pub struct DayEntries {
     pub day: u64,
     pub tot: u64,

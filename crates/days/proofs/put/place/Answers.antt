@@ -7,11 +7,11 @@ use Rattle.days.proofs.put.place.Goals as goal
 use Rattle.days.proofs.put.place.Goals.{After-put_entry, After-put_entry-2}
 
 -- a put keeps the length
-kept : (c : After-put_entry) → length c.put_entry.new.0 ≡ length c.args.days.now
+kept : (c : After-put_entry) → length c.put_entry.new.part ≡ length c.args.days.now
 kept c = c.put_entry.auto.part
 
-kept-2 : (c : After-put_entry-2) → length c.put_entry-2.new.0 ≡ length c.args.days.now
-kept-2 c = c.put_entry-2.auto.part ∙ kept c.before.before.before.before.before
+kept-2 : (c : After-put_entry-2) → length c.put_entry-2.new.part ≡ length c.args.days.now
+kept-2 c = c.put_entry-2.auto.part ∙ (c.put_entry.auto.part)
 
 pub put_entry-requires : goal.put_entry-requires
 put_entry-requires c = row_there c.requires _ (omega arith) c.day_index.ensures

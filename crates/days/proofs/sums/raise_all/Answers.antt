@@ -16,7 +16,7 @@ loop-k-preserved c =
     let old : get_or l.sums l.k 0 ≡ get_or a.sums.now l.k 0 = unfilled _ _ l.sums l.k l.invariant.2 (omega arith) in (
       omega arith,
       simp length-set (omega arith),
-      fill _ _ l.sums l.k _ l.invariant.2 (omega arith) (c.wrapping_add_u64.ensures ∙ ap (λ x. wrapping_sum x a.by) old),
+      fill _ _ l.sums l.k _ l.invariant.2 (omega arith) (c.wrapping_add_u64.ensures.value ∙ ap (λ x. wrapping_sum x a.by) old),
     )
 
 pub returns : goal.returns

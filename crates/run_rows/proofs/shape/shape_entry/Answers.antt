@@ -28,7 +28,7 @@ average_up-requires c = enough_some _ _ (own-enough (goal.at.average_up-requires
 pub entry_of-requires : goal.entry_of-requires
 entry_of-requires c =
     rw c.own.ensures
-    (fits A c.args.date c.args.sum c.args.count _ _ _ (omega arith) c.requires.date_bound (own-enough (goal.at.entry_of-requires c).Then-enough) c.requires.averaged c.average_up.ensures)
+    (fits A c.args.date c.args.sum c.args.count _ _ _ (omega arith) c.requires.date_bound (own-enough (goal.at.entry_of-requires c).Then-enough) c.requires.averaged (c.average_up.ensures.value_value, c.average_up.ensures.remainder_value))
 
 pub average_up-requires-then-enough-2 : goal.average_up-requires-then-enough-2
 average_up-requires-then-enough-2 c = enough_some _ _ (family-enough (goal.at.average_up-requires-then-enough-2 c).Then-enough-2)
@@ -36,4 +36,4 @@ average_up-requires-then-enough-2 c = enough_some _ _ (family-enough (goal.at.av
 pub entry_of-requires-then-enough-2 : goal.entry_of-requires-then-enough-2
 entry_of-requires-then-enough-2 c =
     rw c.pooled.ensures
-    (fits D c.args.date c.args.family_sum c.args.family_count _ _ _ (omega arith) c.requires.date_bound (family-enough (goal.at.entry_of-requires-then-enough-2 c).Then-enough-2) c.requires.averaged_2 c.average_up-then-enough-2.ensures)
+    (fits D c.args.date c.args.family_sum c.args.family_count _ _ _ (omega arith) c.requires.date_bound (family-enough (goal.at.entry_of-requires-then-enough-2 c).Then-enough-2) c.requires.averaged_2 (c.average_up-then-enough-2.ensures.value_value, c.average_up-then-enough-2.ensures.remainder_value))

@@ -1,0 +1,7 @@
+-- `reads::checks::category_number` meets its contract.
+use Rattle.std.proofs.Common.{arith}
+use Rattle.ledger.specs.Ready.{ready}
+use Rattle.reads.proofs.checks.category_number.Goals as goal
+
+pub category_count-requires : goal.category_count-requires
+category_count-requires c = let k = ready _ c.requires in omega arith
