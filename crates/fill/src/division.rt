@@ -5,6 +5,7 @@ use crate::missing::weight;
 use store::column::Column;
 
 // `sum` is that of the missing periods' values. Parts and remainders go to the arrays, a place for each period; the answer is the Wh left over.
+#[tactic(auto, unfolding(ledger::specs::Fill::left_over))]
 pub fn divide(
     cells: &[u64],
     column: Column,

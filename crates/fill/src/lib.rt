@@ -1,4 +1,6 @@
 // Filling a hole from a register advance (change request 2026-01): the advance goes to a date's missing periods by a category's shape. Nothing is written before all checks have passed.
+#![tactic(auto)]
+
 mod division;
 mod missing;
 mod opted_out;

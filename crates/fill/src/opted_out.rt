@@ -7,6 +7,7 @@ use settings::category::is_opted_out_shape;
 use settings::header::category_count;
 
 // Its number, or how many categories there are where none is such.
+#[tactic(auto, unfolding(ledger::specs::Fill::shape_category))]
 pub fn opted_out_category(settings: &[u8], group: u64, quantity: u64, connection: u64) -> u64
     requires { settings_ready settings.now ≡ true }
     ensures { result ≡ shape_category (category_of settings.now) (categories_of settings.now) (of_opted_out group quantity connection) }

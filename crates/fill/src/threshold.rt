@@ -14,6 +14,7 @@ fn one_if(remainder: u64, least: u64) -> u64
 }
 
 // How many of the first `periods` remainders are at least `least`.
+#[tactic(auto, unfolding(ledger::specs::Threshold::reaching))]
 pub fn reaching(remainders: &[u64; 96], periods: u64, least: u64) -> u64
     requires { (periods ≤ 96) × (length remainders.now ≡ 96) }
     ensures { Figure 96 (reaching periods (λ k. get_or remainders.now k 0) least) result }

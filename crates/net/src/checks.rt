@@ -8,6 +8,7 @@ use reads::checks::{first_number, run_number};
 use settings::category::{is_smart, quantity};
 
 // 26; `exports` is how many export categories there are on the other side.
+#[tactic(auto, unfolding(crate::specs::Sides::paired_with))]
 fn partner_number(settings: &[u8], category: u64, exports: u64) -> u64
     requires { (settings_ready settings.now ≡ true) × (category < categories_of settings.now) }
     ensures { result ≡ cond (not (paired_with settings.now category exports)) 26 0 }

@@ -1,5 +1,7 @@
 // The net read (change request 2026-13): import less export, for each period of a date, for the date and for its week. Both sides are found before a cell is read;
 // the week comes from the days.
+#![tactic(auto)]
+
 ghost use Rattle.std.specs.Prelude.{◌≡◌, length, take};
 ghost use Rattle.ledger.specs.Ledger.{answer, net_is, left};
 ghost use Rattle.ledger.specs.Store.{periods_of};

@@ -25,6 +25,7 @@ fn with_member(found: &mut [u64; 64], count: u64, chosen: bool, category: u64) -
 }
 
 // Their numbers stand at the front of `found`, upward; the answer is how many there are.
+#[tactic(auto, unfolding(ledger::specs::Calls::side_for, ledger::specs::Net::side_of))]
 pub fn members(
     settings: &[u8],
     all_groups: bool,

@@ -42,7 +42,7 @@ returns-clause-answers c =
     let a = c.args in
     (finds a.settings.now a.days.now a.category a.day_type a.least a.most a.dates.now _ c.search_number-number.ensures _ _ _ c.if-number-ne0.false
     c.if-most-least.false
-    (test_passed c.day_type_valid.ensures c.if-not-day_type_valid.false)
+    (sym c.day_type_valid.ensures ∙ c.if-not-day_type_valid.false)
     (c.list_dates-found.ensures.value, c.list_dates-found.ensures.dates_after)
     c.smaller.ensures).0
 
@@ -51,6 +51,6 @@ returns-clause-dates_are c =
     let a = c.args in
     (finds a.settings.now a.days.now a.category a.day_type a.least a.most a.dates.now _ c.search_number-number.ensures _ _ _ c.if-number-ne0.false
     c.if-most-least.false
-    (test_passed c.day_type_valid.ensures c.if-not-day_type_valid.false)
+    (sym c.day_type_valid.ensures ∙ c.if-not-day_type_valid.false)
     (c.list_dates-found.ensures.value, c.list_dates-found.ensures.dates_after)
     c.smaller.ensures).1
