@@ -1,0 +1,65 @@
+-- `later_dates::write::write_step` meets its contract: a date that is no predecessor is passed over, the part lent of another is its row, and follows.
+use Rattle.std.proofs.Common.{ℕ, ◌+◌, ◌-◌, ◌*◌, ◌≤◌, ◌≡◌, sym, ap, ◌∙◌, arith, length}
+use borrow.Author.Tests.{not-true, not-false}
+use Rattle.ledger.specs.Ready.{ready, row_bounds}
+use Rattle.ledger.specs.Store.{row_length}
+use Rattle.ledger.specs.Calls.{publish, as_published}
+use Rattle.store.proofs.RowLaws.{row_fits}
+use Rattle.later_dates.proofs.Laws.{step_skip, stepped_as, step_still, step_written}
+use Rattle.later_dates.proofs.write.write_step.Goals as goal
+use Rattle.later_dates.proofs.write.write_step.Goals.{After-row_length-length, After-row_start-at}
+
+row_there : (c : After-row_length-length) → let a = c.args in a.date * row_length a.settings.now + row_length a.settings.now ≤ length a.cells.now
+row_there c = row_fits c.args.settings.now c.args.cells.now c.args.date c.requires.1 c.requires.3
+
+starts : (c : After-row_start-at) → let a = c.args in c.row_start-at.result ≡ a.date * row_length a.settings.now
+starts c = c.row_start-at.ensures ∙ ap (λ (n : ℕ). c.args.date * n) c.row_length-length.ensures
+
+width : (c : After-row_start-at) → c.row_start-at.result + c.row_length-length.result - c.row_start-at.result ≡ row_length c.args.settings.now
+width c = omega (arith, c.row_length-length.ensures)
+
+fit : (c : After-row_start-at) → c.row_start-at.result + c.row_length-length.result ≤ length c.args.cells.now
+fit c = omega (arith, starts c, c.row_length-length.ensures, (row_fits c.args.settings.now c.args.cells.now c.args.date c.requires.1 c.requires.3))
+
+pub returns-then-not-is_predecessor : goal.returns-then-not-is_predecessor
+returns-then-not-is_predecessor c =
+    stepped_as
+    (step_skip publish c.args.settings.now c.args.day c.args.date c.args.inherited.now (as_published c.args.cells.now c.args.days.now) c.requires.3
+    (sym c.is_predecessor.ensures ∙ not-true _ c.if-not-is_predecessor.true-raw))
+    c.passed_over.ensures.0 c.passed_over.ensures.1
+
+pub row_start-at-requires : goal.row_start-at-requires
+row_start-at-requires c =
+    rw c.row_length-length.ensures (omega (arith, row_there (goal.at.row_start-at-requires c).After-row_length-length))
+
+pub overflow_add-end : goal.overflow_add-end
+overflow_add-end c = omega (arith, fit (goal.at.overflow_add-end c).After-row_start-at)
+
+pub offset_bounds-cells-at : goal.offset_bounds-cells-at
+offset_bounds-cells-at c = omega (arith, fit (goal.at.offset_bounds-cells-at c).After-row_start-at)
+
+pub slice_bounds-follow_row-end : goal.slice_bounds-follow_row-end
+slice_bounds-follow_row-end c = omega (arith, fit (goal.at.slice_bounds-follow_row-end c).After-row_start-at)
+
+-- nothing moved
+pub returns-then-moved-eq0 : goal.returns-then-moved-eq0
+returns-then-moved-eq0 c =
+    let a = c.args in
+    let S = a.settings.now in
+    stepped_as
+    (step_still S a.day a.date a.inherited.now a.cells.now c.requires.3
+    (sym c.is_predecessor.ensures ∙ not-false _ c.if-not-is_predecessor.false)
+    (row_bounds S (ready S c.requires.0)).1 (row_there (goal.at.returns-then-moved-eq0 c).After-row_length-length) _ _ (starts (goal.at.returns-then-moved-eq0 c).After-row_start-at) (width (goal.at.returns-then-moved-eq0 c).After-row_start-at) _ _ c.follow_row-moved.ensures.inherited_after c.follow_row-moved.ensures.value a.days.now _ c.follow_row-moved.ensures.row_after c.if-moved-eq0.true)
+    c.followed.ensures.0 c.followed.ensures.1
+
+-- the days are kept from the row that was written
+pub returns : goal.returns
+returns c =
+    let a = c.args in
+    let S = a.settings.now in
+    stepped_as
+    (step_written S a.day a.date a.inherited.now a.cells.now c.requires.3
+    (sym c.is_predecessor.ensures ∙ not-false _ c.if-not-is_predecessor.false)
+    (row_bounds S (ready S c.requires.0)).1 (row_there (goal.at.returns c).After-row_length-length) _ _ (starts (goal.at.returns c).After-row_start-at) (width (goal.at.returns c).After-row_start-at) _ _ c.follow_row-moved.ensures.inherited_after c.follow_row-moved.ensures.value a.days.now _ c.follow_row-moved.ensures.row_after c.if-moved-eq0.false _
+    c.keep_days.ensures)
+    c.followed-2.ensures.0 c.followed-2.ensures.1
