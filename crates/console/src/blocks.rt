@@ -20,17 +20,16 @@ fn shift(block: &mut [u8], from: usize, count: usize)
 }
 
 // Writes out what waits.
-pub fn flush(session: Session, output: &[u8]) -> Session
+pub fn flush(rt: &HostRuntime, session: Session, output: &[u8]) -> Session
     requires { session.waiting ≤ length output.now }
     ensures { Flushed session result }
 {
     let waiting = session.waiting;
-    if write_out(&output[..waiting]) {
+    if write_out(rt, &output[..waiting]) {
         let mut next = session;
         next.waiting = 0;
         return next;
     }
-    os::fail(b"standard output");
     with_stage(session, Stage::WriteFailed)
 }
 
@@ -51,7 +50,12 @@ fn stage_after(got: isize, kept: usize) -> Stage
 }
 
 // Reads on behind the cut command.
-pub fn refill(session: Session, input: &mut [u8], output: &mut [u8]) -> Session
+pub fn refill(
+    rt: &HostRuntime,
+    session: Session,
+    input: &mut [u8],
+    output: &mut [u8],
+) -> Session
     requires block_bounds { BlockBounds session (length input.old) × (session.stage ≡ Short) }
     requires waiting_value { (session.waiting ≡ 0) × (300 ≤ length output.old) × HasRoom session (length input.old) }
     ensures block_bounds_2 { BlockBounds result (length input.old) × (result.waiting ≤ length output.old) × SameCollected session result }
@@ -61,17 +65,13 @@ pub fn refill(session: Session, input: &mut [u8], output: &mut [u8]) -> Session
     let at = next.at;
     let kept = next.end - at;
     shift(input, at, kept);
-    let got = read_some(&mut input[kept..]);
-    let fresh = io::count(got, &input[kept..]);
+    let got = read_some(rt, &mut input[kept..]);
+    let fresh = if 0 < got { got as usize } else { 0 };
     next.at = 0;
     next.end = kept + fresh;
     let stage = stage_after(got, kept);
     match stage {
         Stage::SaidBad => say_bad(next, output),
-        Stage::ReadFailed => {
-            os::fail(b"standard input");
-            with_stage(next, stage)
-        }
         _ => with_stage(next, stage),
     }
 }
