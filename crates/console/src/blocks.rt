@@ -2,7 +2,7 @@
 ghost use Rattle.std.specs.Prelude.{◌≡◌, [], ◌+◌, ◌≤◌, length, take, drop};
 ghost use Rattle.session.specs.declared.held.Stage.TheVariants.{Full, Short};
 ghost use Rattle.session.specs.Session.{BlockBounds, untaken};
-ghost use Rattle.console.specs.Turn.{HasRoom, SameCollected, Flushed, stage_after, Exchanged};
+ghost use Rattle.console.specs.Turn.{HasRoom, SameCollected, Flushed, stage_after, count_of, Exchanged};
 
 use crate::transfer::{read_some, write_out};
 use session::{Session, Stage, say_bad, with_stage};
@@ -12,11 +12,7 @@ fn shift(block: &mut [u8], from: usize, count: usize)
     requires { from + count ≤ length block.old }
     ensures { take count block.new ≡ take count (drop from block.old) }
 {
-    let mut i: usize = 0;
-    while i < count {
-        block[i] = block[from + i];
-        i += 1;
-    }
+    block.copy_within(from..from + count, 0);
 }
 
 // Writes out what waits.
@@ -49,13 +45,15 @@ fn stage_after(got: isize, kept: usize) -> Stage
     Stage::InputEnd
 }
 
+// The bytes that a read brought: none where it failed.
+fn count(got: isize) -> usize
+    ensures { result ≡ count_of got }
+{
+    if got < 0 { 0 } else { got as usize }
+}
+
 // Reads on behind the cut command.
-pub fn refill(
-    rt: &HostRuntime,
-    session: Session,
-    input: &mut [u8],
-    output: &mut [u8],
-) -> Session
+pub fn refill(rt: &HostRuntime, session: Session, input: &mut [u8], output: &mut [u8]) -> Session
     requires block_bounds { BlockBounds session (length input.old) × (session.stage ≡ Short) }
     requires waiting_value { (session.waiting ≡ 0) × (300 ≤ length output.old) × HasRoom session (length input.old) }
     ensures block_bounds_2 { BlockBounds result (length input.old) × (result.waiting ≤ length output.old) × SameCollected session result }
@@ -66,7 +64,7 @@ pub fn refill(
     let kept = next.end - at;
     shift(input, at, kept);
     let got = read_some(rt, &mut input[kept..]);
-    let fresh = if 0 < got { got as usize } else { 0 };
+    let fresh = count(got);
     next.at = 0;
     next.end = kept + fresh;
     let stage = stage_after(got, kept);

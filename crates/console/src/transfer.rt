@@ -1,6 +1,7 @@
 // One read or write that moves something, tried again where the system asks for it.
-ghost use Rattle.std.specs.Prelude.{◌≡◌, false, ◌≤◌, length, pos, ◌≤ℤ◌};
+ghost use Rattle.std.specs.Prelude.{◌≡◌, false, ◌≤◌, length};
 ghost use Rattle.std.specs.Io.{ReadsAtMost, WritesAtMost};
+ghost use Rattle.console.specs.Turn.{count_of};
 
 use crate::failure::say_failed;
 use std::io::{Error, ErrorKind, Read, Result, Write};
@@ -30,7 +31,7 @@ fn try_to_read(rt: &HostRuntime, block: &mut [u8]) -> Result<usize>
 
 // Answers how many bytes came, 0 at the input's end, and -1 where the read failed.
 pub fn read_some(rt: &HostRuntime, block: &mut [u8]) -> isize
-    ensures { result ≤ℤ pos (length block.new) }
+    ensures { count_of result ≤ length block.new }
 {
     match try_to_read(rt, block) {
         Ok(count) => count as isize,
