@@ -51,6 +51,11 @@ stage_after (pos zero) zero = InputEnd
 stage_after (pos zero) (suc kept) = SaidBad
 stage_after (pos (suc got)) kept = Going
 
+-- how many bytes it brought
+abbrev pub count_of : ℤ → ℕ
+count_of (negsuc k) = 0
+count_of (pos got) = got
+
 -- how the dialogue stands then, `cut` saying that the bytes left are the start of a command, and `full` that output waited for room. What
 -- goes on has nothing waiting: behind a cut command something was read, else a full block was written out. At the input's end nothing may be
 -- cut. After a failed write something waits

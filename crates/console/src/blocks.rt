@@ -2,7 +2,7 @@
 ghost use Rattle.std.specs.Prelude.{◌≡◌, [], ◌+◌, ◌≤◌, length, take, drop};
 ghost use Rattle.session.specs.declared.held.Stage.TheVariants.{Full, Short};
 ghost use Rattle.session.specs.Session.{BlockBounds, untaken};
-ghost use Rattle.console.specs.Turn.{HasRoom, SameCollected, Flushed, stage_after, Exchanged};
+ghost use Rattle.console.specs.Turn.{HasRoom, SameCollected, Flushed, stage_after, count_of, Exchanged};
 
 use crate::transfer::{read_some, write_out};
 use session::{Session, Stage, say_bad, with_stage};
@@ -12,25 +12,20 @@ fn shift(block: &mut [u8], from: usize, count: usize)
     requires { from + count ≤ length block.old }
     ensures { take count block.new ≡ take count (drop from block.old) }
 {
-    let mut i: usize = 0;
-    while i < count {
-        block[i] = block[from + i];
-        i += 1;
-    }
+    block.copy_within(from..from + count, 0);
 }
 
 // Writes out what waits.
-pub fn flush(session: Session, output: &[u8]) -> Session
+pub fn flush(rt: &HostRuntime, session: Session, output: &[u8]) -> Session
     requires { session.waiting ≤ length output.now }
     ensures { Flushed session result }
 {
     let waiting = session.waiting;
-    if write_out(&output[..waiting]) {
+    if write_out(rt, &output[..waiting]) {
         let mut next = session;
         next.waiting = 0;
         return next;
     }
-    os::fail(b"standard output");
     with_stage(session, Stage::WriteFailed)
 }
 
@@ -50,8 +45,15 @@ fn stage_after(got: isize, kept: usize) -> Stage
     Stage::InputEnd
 }
 
+// The bytes that a read brought: none where it failed.
+fn count(got: isize) -> usize
+    ensures { result ≡ count_of got }
+{
+    if got < 0 { 0 } else { got as usize }
+}
+
 // Reads on behind the cut command.
-pub fn refill(session: Session, input: &mut [u8], output: &mut [u8]) -> Session
+pub fn refill(rt: &HostRuntime, session: Session, input: &mut [u8], output: &mut [u8]) -> Session
     requires block_bounds { BlockBounds session (length input.old) × (session.stage ≡ Short) }
     requires waiting_value { (session.waiting ≡ 0) × (300 ≤ length output.old) × HasRoom session (length input.old) }
     ensures block_bounds_2 { BlockBounds result (length input.old) × (result.waiting ≤ length output.old) × SameCollected session result }
@@ -61,17 +63,13 @@ pub fn refill(session: Session, input: &mut [u8], output: &mut [u8]) -> Session
     let at = next.at;
     let kept = next.end - at;
     shift(input, at, kept);
-    let got = read_some(&mut input[kept..]);
-    let fresh = io::count(got, &input[kept..]);
+    let got = read_some(rt, &mut input[kept..]);
+    let fresh = count(got);
     next.at = 0;
     next.end = kept + fresh;
     let stage = stage_after(got, kept);
     match stage {
         Stage::SaidBad => say_bad(next, output),
-        Stage::ReadFailed => {
-            os::fail(b"standard input");
-            with_stage(next, stage)
-        }
         _ => with_stage(next, stage),
     }
 }

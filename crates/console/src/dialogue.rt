@@ -10,23 +10,24 @@ use commands::Capacity;
 use session::{Session, Stage, is_going, obey_all, with_stage};
 
 // Makes room for more commands: their lines are written out, and behind a cut one is read on.
-fn exchange(session: Session, input: &mut [u8], output: &mut [u8]) -> Session
+fn exchange(rt: &HostRuntime, session: Session, input: &mut [u8], output: &mut [u8]) -> Session
     requires block_bounds { BlockBounds session (length input.old) × ((session.stage ≡ Full) ⊎ (session.stage ≡ Short)) }
     requires waiting_in_bounds { (session.waiting ≤ length output.old) × (300 ≤ length output.old) × (session.stage ≡ Short → HasRoom session (length input.old)) }
     ensures block_bounds_2 { BlockBounds result (length input.old) × (result.waiting ≤ length output.old) × SameCollected session result }
     ensures exchanged { Exchanged (session.stage ≡ Short) (session.stage ≡ Full) (untaken session input.old) (take session.waiting output.old) (untaken result input.new) (take result.waiting output.new) result.stage }
 {
-    let sent = flush(session, &output[..]);
+    let sent = flush(rt, session, &output[..]);
     let stage = sent.stage;
     match stage {
         Stage::Full => with_stage(sent, Stage::Going),
-        Stage::Short => refill(sent, input, output),
+        Stage::Short => refill(rt, sent, input, output),
         _ => sent,
     }
 }
 
 // One turn: all commands at hand are obeyed, and room is made for more.
 fn turn(
+    rt: &HostRuntime,
     session: Session,
     input: &mut [u8],
     output: &mut [u8],
@@ -63,11 +64,12 @@ fn turn(
     let stage = told.stage;
     match stage {
         Stage::SaidBad => told,
-        _ => exchange(told, input, output),
+        _ => exchange(rt, told, input, output),
     }
 }
 
 fn take_turns(
+    rt: &HostRuntime,
     input: &mut [u8],
     output: &mut [u8],
     category_records: &mut [u8],
@@ -95,6 +97,7 @@ fn take_turns(
     let mut going = true;
     while session.turns > 0 && going {
         session = turn(
+            rt,
             session,
             input,
             output,
@@ -116,6 +119,7 @@ fn take_turns(
 // The whole dialogue. As many 11s and 12s are collected as the first two parts have room for. Each
 // block has room for the longest command, 2,056 bytes, and for a line. Answers why it ended.
 pub fn converse(
+    rt: &HostRuntime,
     category_records: &mut [u8],
     day_types: &mut [u8],
     settings: &mut [u8],
@@ -127,9 +131,10 @@ pub fn converse(
 ) -> Stage
     ensures { Conversed (setup_of category_records.old day_types.old capacity) (parts_of settings.old meters.old readings.old cells.old days.old) (parts_of settings.new meters.new readings.new cells.new days.new) result }
 {
-    let mut input = io::large_buffer();
-    let mut output = io::large_buffer();
+    let mut input = [0u8; 65536];
+    let mut output = [0u8; 65536];
     let session = take_turns(
+        rt,
         &mut input,
         &mut output,
         category_records,
@@ -144,7 +149,7 @@ pub fn converse(
     let stage = session.stage;
     match stage {
         Stage::SaidBad => {
-            let told = flush(session, &output);
+            let told = flush(rt, session, &output);
             told.stage
         }
         _ => stage,

@@ -16,10 +16,8 @@ pub fn operand(line: &[u8; 53], place: usize) -> u64
 {
     let start = 2 + 17 * place;
     let mut value: u64 = 0;
-    let mut i: usize = 0;
-    while i < 16 {
+    for i in 0..16 {
         value = value % 1152921504606846976 * 16 + digit(line[start + i]);
-        i += 1;
     }
     value
 }

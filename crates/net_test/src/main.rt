@@ -1,11 +1,13 @@
 // The command program with parts for 12 categories, 12 meters and 12 dates of 48 periods. Behind its answers it writes all nets of the store that the commands left.
+#![tactic(auto)]
+
 mod nets;
 mod show;
 
 use commands::Capacity;
 use session::Stage;
 
-fn main() {
+fn main(rt: HostRuntime) {
     let mut category_records = [0u8; 96];
     let mut day_types = [0u8; 12];
     let mut settings = [0u8; 148];
@@ -14,6 +16,7 @@ fn main() {
     let mut cells = [0u64; 6912];
     let mut days = [0u64; 576];
     let end = console::converse(
+        &rt,
         &mut category_records,
         &mut day_types,
         &mut settings,
@@ -29,10 +32,10 @@ fn main() {
     match end {
         Stage::WriteFailed => {}
         _ => {
-            nets::all_nets(&settings, &cells, &days, false);
-            nets::all_nets(&settings, &cells, &days, true);
-            nets::other_lengths(&settings, &cells, &days);
-            nets::without_the_last_cell(&settings, &cells, &days);
+            nets::all_nets(&rt, &settings, &cells, &days, false);
+            nets::all_nets(&rt, &settings, &cells, &days, true);
+            nets::other_lengths(&rt, &settings, &cells, &days);
+            nets::without_the_last_cell(&rt, &settings, &cells, &days);
         }
     }
 }

@@ -1,93 +1,79 @@
 // The parts of a line, to standard output.
-use libc::STDOUT_FILENO;
 use metering::signed::magnitude;
 
-pub fn text(bytes: &[u8]) {
-    io::write_all(STDOUT_FILENO, bytes);
+// A write that fails stops nothing.
+pub fn text(rt: &HostRuntime, bytes: &[u8]) {
+    let _ = rt.write_all(bytes);
 }
 
-fn number(n: u64) {
-    text(b" ");
-    io::print_decimal(STDOUT_FILENO, n);
+fn decimal(rt: &HostRuntime, n: u64) {
+    let _ = rt.print(n);
 }
 
-fn signed(x: i64) {
-    text(b" ");
+fn number(rt: &HostRuntime, n: u64) {
+    text(rt, b" ");
+    decimal(rt, n);
+}
+
+fn signed(rt: &HostRuntime, x: i64) {
+    text(rt, b" ");
     if x < 0 {
-        text(b"-");
+        text(rt, b"-");
     }
-    io::print_decimal(STDOUT_FILENO, magnitude(x));
+    decimal(rt, magnitude(x));
 }
 
-pub fn question(date: u64, category: u64, all_groups: bool) {
-    text(b"net");
-    number(date);
-    number(category);
+pub fn question(rt: &HostRuntime, date: u64, category: u64, all_groups: bool) {
+    text(rt, b"net");
+    number(rt, date);
+    number(rt, category);
     if all_groups {
-        text(b" 1");
+        text(rt, b" 1");
     } else {
-        text(b" 0");
+        text(rt, b" 0");
     }
 }
 
-pub fn accepted(tot: i64, tot7: i64) {
-    text(b" ok");
-    signed(tot);
-    signed(tot7);
+pub fn accepted(rt: &HostRuntime, tot: i64, tot7: i64) {
+    text(rt, b" ok");
+    signed(rt, tot);
+    signed(rt, tot7);
 }
 
-pub fn numbers(list: &[i64; 50]) {
-    let mut i: usize = 0;
-    while i < 50 {
-        signed(list[i]);
-        i += 1;
+pub fn numbers(rt: &HostRuntime, list: &[i64; 50]) {
+    for x in list {
+        signed(rt, *x);
     }
 }
 
-fn mark(m: u8) {
-    number(m as u64);
+fn mark(rt: &HostRuntime, m: u8) {
+    number(rt, m as u64);
 }
 
-pub fn marks(list: &[u8; 50]) {
-    let mut i: usize = 0;
-    while i < 50 {
-        mark(list[i]);
-        i += 1;
+pub fn marks(rt: &HostRuntime, list: &[u8; 50]) {
+    for m in list {
+        mark(rt, *m);
     }
 }
 
-pub fn refused(cause: u64, place: u64) {
-    text(b" no");
-    number(cause);
-    number(place);
+pub fn refused(rt: &HostRuntime, cause: u64, place: u64) {
+    text(rt, b" no");
+    number(rt, cause);
+    number(rt, place);
 }
 
 fn numbers_kept(list: &[i64; 50]) -> bool {
-    let mut i: usize = 0;
-    while i < 50 {
-        if list[i] != -7 {
-            return false;
-        }
-        i += 1;
-    }
-    true
+    list.iter().all(|x| *x == -7)
 }
 
 fn marks_kept(list: &[u8; 50]) -> bool {
-    let mut i: usize = 0;
-    while i < 50 {
-        if list[i] != 9 {
-            return false;
-        }
-        i += 1;
-    }
-    true
+    list.iter().all(|m| *m == 9)
 }
 
-pub fn kept(numbers: &[i64; 50], marks: &[u8; 50]) {
+pub fn kept(rt: &HostRuntime, numbers: &[i64; 50], marks: &[u8; 50]) {
     if numbers_kept(numbers) && marks_kept(marks) {
-        text(b" kept");
+        text(rt, b" kept");
     } else {
-        text(b" changed");
+        text(rt, b" changed");
     }
 }

@@ -1,8 +1,10 @@
 // The command program with parts for 8 categories, 8 meters and 370 dates of 96 periods, for what
 // the standard ones have no room for.
+#![tactic(auto)]
+
 use commands::Capacity;
 
-fn main() {
+fn main(rt: HostRuntime) {
     let mut category_records = [0u8; 64];
     let mut day_types = [0u8; 370];
     let mut settings = [0u8; 474];
@@ -11,6 +13,7 @@ fn main() {
     let mut cells = [0u64; 284160];
     let mut days = [0u64; 11840];
     console::converse(
+        &rt,
         &mut category_records,
         &mut day_types,
         &mut settings,

@@ -44,4 +44,4 @@ returns-clause-remainder_value c =
     let less = mod-lt a.sum c.requires in
     let value = (average_is a.sum a.count (a.sum / a.count + 1) c.requires).0 (omega arith) in
     rw (to_z_pos _ (lacking-small (goal.at.returns-clause-remainder_value c).Else-left-lacking), to_z-of_z (minus_fits 0 _ (omega arith) (lacking-small (goal.at.returns-clause-remainder_value c).Else-left-lacking)))
-        (remainder_is a.sum a.count _ 0 (a.count - a.sum % a.count) value (omega arith))
+    (remainder_is a.sum a.count _ 0 (a.count - a.sum % a.count) value (omega arith))
