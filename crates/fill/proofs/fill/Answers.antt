@@ -77,7 +77,7 @@ pub share_out-requires : goal.share_out-requires
 share_out-requires c =
     let a = c.args in
     let some = some_sum a.settings.now a.cells.now (of_category a.category) a.date a.advance a.missing.now a.filled.now _ (named (goal.at.share_out-requires c).After-range_number-range_failed) _ c.range_number-range_failed.ensures c.if-range_failed-ne0.false c.column_of-column.ensures c.missing_sum-sum.ensures.is c.run_number-run_failed.ensures c.sum_number-sum_failed.ensures c.first_number-failed.ensures c.if-failed-ne0.false in
-    (may_share _ (reaches (goal.at.share_out-requires c).After-column_of-column) (long (goal.at.share_out-requires c).After-column_of-column).0 c.missing_sum-sum.ensures some c.??fits.advance.fits, (long (goal.at.share_out-requires c).After-column_of-column).1)
+    (may_share _ (reaches (goal.at.share_out-requires c).After-column_of-column) (long (goal.at.share_out-requires c).After-column_of-column).0 c.missing_sum-sum.ensures some c.ranges.advance.fits, (long (goal.at.share_out-requires c).After-column_of-column).1)
 
 pub returns-clause-answers : goal.returns-clause-answers
 returns-clause-answers c =

@@ -1,6 +1,5 @@
 -- `later_dates::count::count_step` meets its contract: a date that is no predecessor is passed over, the copy of another's row is followed.
 use Rattle.std.proofs.Common.{ℕ, ◌+◌, ◌-◌, ◌*◌, ◌≤◌, ◌≡◌, sym, ap, ◌∙◌, [], arith, length, take, drop}
-use borrow.Author.Tests.{not-true, not-false}
 use Rattle.ledger.specs.Ready.{ready, row_bounds}
 use Rattle.ledger.specs.Store.{row_length}
 use Rattle.ledger.specs.Calls.{count_only, as_published}
@@ -34,7 +33,7 @@ pub returns-then-not-is_predecessor : goal.returns-then-not-is_predecessor
 returns-then-not-is_predecessor c =
     stepped_as
     (step_skip count_only c.args.settings.now c.args.day c.args.date c.args.inherited.now (as_published c.args.cells.now []) c.requires.2
-    (sym c.is_predecessor.ensures ∙ not-true _ c.if-not-is_predecessor.true-raw))
+    (sym c.is_predecessor.ensures ∙ c.if-not-is_predecessor.true))
     c.passed_over.ensures.0 c.passed_over.ensures.1
 
 pub row_start-at-requires : goal.row_start-at-requires
@@ -56,6 +55,6 @@ returns c =
     let S = a.settings.now in
     stepped_as
     (step_copied S a.day a.date a.inherited.now a.cells.now c.requires.2
-    (sym c.is_predecessor.ensures ∙ not-false _ c.if-not-is_predecessor.false)
+    (sym c.is_predecessor.ensures ∙ c.if-not-is_predecessor.false)
     (row_bounds S (ready S c.requires.0)).1 (row_there (goal.at.returns c).After-row_length-length) _ _ (starts (goal.at.returns c).After-row_start-at) (width (goal.at.returns c).After-row_start-at) _ (back (goal.at.returns c).After-copy_row) _ _ c.follow_row.ensures.inherited_after c.follow_row.ensures.value)
     c.followed.ensures.0 c.followed.ensures.1

@@ -11,7 +11,7 @@ in_range : (c : After-write_step-step) → c.loop-d.d < dates_of c.args.settings
 in_range c = rw (← c.loop-d.invariant.0) c.loop-d-test.true
 
 room : (c : After-write_step-step) → (c.loop-d.total + c.write_step-step.result.moved < 18446744073709551616) × (c.loop-d.d + 1 < 18446744073709551616)
-room c = walk_room _ _ _ _ _ _ _ _ _ _ _ c.loop-d.invariant.4 in_range c.write_step-step.ensures (ready _ c.requires.settings_value.0)
+room c = walk_room _ _ _ _ _ _ _ _ _ _ _ c.loop-d.invariant.4 (in_range c) c.write_step-step.ensures (ready _ c.requires.settings_value.0)
 
 pub date_count-dates-requires : goal.date_count-dates-requires
 date_count-dates-requires c = header_there _ c.requires.settings_value.0

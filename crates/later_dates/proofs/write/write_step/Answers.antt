@@ -1,6 +1,5 @@
 -- `later_dates::write::write_step` meets its contract: a date that is no predecessor is passed over, the part lent of another is its row, and follows.
 use Rattle.std.proofs.Common.{ℕ, ◌+◌, ◌-◌, ◌*◌, ◌≤◌, ◌≡◌, sym, ap, ◌∙◌, arith, length}
-use borrow.Author.Tests.{not-true, not-false}
 use Rattle.ledger.specs.Ready.{ready, row_bounds}
 use Rattle.ledger.specs.Store.{row_length}
 use Rattle.ledger.specs.Calls.{publish, as_published}
@@ -25,7 +24,7 @@ pub returns-then-not-is_predecessor : goal.returns-then-not-is_predecessor
 returns-then-not-is_predecessor c =
     stepped_as
     (step_skip publish c.args.settings.now c.args.day c.args.date c.args.inherited.now (as_published c.args.cells.now c.args.days.now) c.requires.3
-    (sym c.is_predecessor.ensures ∙ not-true _ c.if-not-is_predecessor.true-raw))
+    (sym c.is_predecessor.ensures ∙ c.if-not-is_predecessor.true))
     c.passed_over.ensures.0 c.passed_over.ensures.1
 
 pub row_start-at-requires : goal.row_start-at-requires
@@ -48,7 +47,7 @@ returns-then-moved-eq0 c =
     let S = a.settings.now in
     stepped_as
     (step_still S a.day a.date a.inherited.now a.cells.now c.requires.3
-    (sym c.is_predecessor.ensures ∙ not-false _ c.if-not-is_predecessor.false)
+    (sym c.is_predecessor.ensures ∙ c.if-not-is_predecessor.false)
     (row_bounds S (ready S c.requires.0)).1 (row_there (goal.at.returns-then-moved-eq0 c).After-row_length-length) _ _ (starts (goal.at.returns-then-moved-eq0 c).After-row_start-at) (width (goal.at.returns-then-moved-eq0 c).After-row_start-at) _ _ c.follow_row-moved.ensures.inherited_after c.follow_row-moved.ensures.value a.days.now _ c.follow_row-moved.ensures.row_after c.if-moved-eq0.true)
     c.followed.ensures.0 c.followed.ensures.1
 
@@ -59,7 +58,7 @@ returns c =
     let S = a.settings.now in
     stepped_as
     (step_written S a.day a.date a.inherited.now a.cells.now c.requires.3
-    (sym c.is_predecessor.ensures ∙ not-false _ c.if-not-is_predecessor.false)
+    (sym c.is_predecessor.ensures ∙ c.if-not-is_predecessor.false)
     (row_bounds S (ready S c.requires.0)).1 (row_there (goal.at.returns c).After-row_length-length) _ _ (starts (goal.at.returns c).After-row_start-at) (width (goal.at.returns c).After-row_start-at) _ _ c.follow_row-moved.ensures.inherited_after c.follow_row-moved.ensures.value a.days.now _ c.follow_row-moved.ensures.row_after c.if-moved-eq0.false _
     c.keep_days.ensures)
     c.followed-2.ensures.0 c.followed-2.ensures.1
