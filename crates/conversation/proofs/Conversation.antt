@@ -15,7 +15,7 @@ use Rattle.ledger.specs.Sizes.{header_length, settings_length}
 use Rattle.ledger.specs.Checks.{Verdict, or_else, first_number, call_number, registration_check, reception_check, run_check, read_check, net_check, band_check, fill_check, preview_check, row_check}
 use Rattle.ledger.specs.Ledger.{Ledger, start, Call, register, receive, run, read_totals, read_cell, read_net, search_band, fill_hole, read_coverage, preview, read_row, refused, answer, accepted, left, settings_short, meters_short, any_short, Lengths, ledger_answer, ledger_after, Opening}
 use Rattle.ledger.specs.Store.{word, meters_of, settings_ready}
-use Rattle.ledger.specs.Ready.{ready, header_there}
+use Rattle.ledger.proofs.Ready.{ready, header_there}
 use Rattle.ledger.specs.Calls.{meters_unready, run_unready, cells_unready, days_unready, opening_verdict, registration_verdict, reception_verdict, run_verdict, day_verdict, cell_verdict, net_verdict, band_verdict, fill_verdict, preview_verdict, row_verdict}
 use Rattle.ledger.specs.Engine.{Parts, call_answer, leaves, opened_parts, after_opening, cut, restored, parts_after, cut_lengths, lengths_of, AreBytes, BodyOfBytes, draft_of}
 use Rattle.ledger.proofs.Verdicts.{left_some}

@@ -23,7 +23,7 @@ use Rattle.ledger.specs.Fill.{FillCall}
 use Rattle.ledger.specs.Ledger.{Answer, answer, accepted, moved, totals_are, cell_is, net_is, band_is, filled_are, coverage_is}
 use Rattle.ledger.specs.Store.{categories_of, dates_of, periods_of, row_length, day_type_of, category_of, settings_ready, days_ready, flag_number_of, cell_of_entry, cell_index, tot_row, off_row, day_index, day_fresh, day_blanks, is_run_day, coverage_of, energy_of, run_dates_of, peak_of, totals_of}
 use Rattle.ledger.specs.Calls.{Published, as_published, Placing, publish, opening_verdict, registration_verdict, reception_verdict, run_verdict, row_at, carried_entry, compared_entry, differing, follows, moved_in_row, moved_by_row, follow_row, inherited_after, carry_on, settled, new_row, ran_from, stretch_sum, dates_sum, days_unready, day_verdict, entries_at, totals_for, cell_verdict, cell_for, net_verdict, net_for, band_verdict, band_for, fill_verdict, fill_for, coverage_for, preview_verdict}
-use Rattle.ledger.specs.Ready.{Ready, ready, row_bounds}
+use Rattle.ledger.proofs.Ready.{Ready, ready, row_bounds}
 use Rattle.ledger.proofs.Open.{sizes_valid_lem}
 use Rattle.ledger.proofs.Choices.{check_passed, accepted_run, accepted_preview}
 use Rattle.ledger.proofs.Chosen.{chosen_few}

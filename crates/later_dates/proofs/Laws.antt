@@ -13,7 +13,7 @@ use lib.ListN.{length, get_or, take, drop}
 use lib.Seq.{drop-drop, drop_at, take_at, length-take-le}
 use borrow.Author.Tests.{eqb-true, eqb-false, eq-eqb, ne_eqb}
 use Rattle.ledger.specs.Method.{blank}
-use Rattle.ledger.specs.Ready.{Ready}
+use Rattle.ledger.proofs.Ready.{Ready}
 use Rattle.ledger.specs.Store.{categories_of, dates_of, row_length, entry_of}
 use Rattle.ledger.specs.Table.{tabulate, filling}
 use Rattle.ledger.specs.Calls.{row_at, put_row, last_run, inherited_from, differing, carried_entry, kept_days, Published, as_published, Placing, publish, count_only, follows, followed_entry, inherited_beyond, follow_row, inherited_after, moved_in_row, carry_on}

@@ -3,7 +3,7 @@ use Rattle.std.proofs.Common.{◌≡◌, ℕ, zero, suc, ◌+◌, ◌-◌, ◌*�
 use mathlib.Core.Bool.{and-eq-true_iff}
 use borrow.Table.Steps.{cases}
 use borrow.Author.Tests.{not-false}
-use Rattle.metering.specs.Laws.{between_true}
+use Rattle.metering.proofs.Laws.{between_true}
 use Rattle.metering.specs.Range.{between}
 use Rattle.ledger.specs.Checks.{RegistrationCall, ReceptionCall, Verdict, verdict, or_else, first_number, call_number, registration_check, reception_check, run_check, range_check, read_check, totals_in_range, cell_in_range, NetCall, lists_short, may_net, net_check, band_check, fill_check, PreviewCall, RowCall, is_published, preview_check, row_check}
 use Rattle.ledger.specs.Band.{BandCall}

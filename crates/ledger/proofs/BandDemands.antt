@@ -3,7 +3,7 @@ use Rattle.std.proofs.Common.{◌≡◌, ℕ, ◌≤◌, Bool, true, cond, ◌&&
 use mathlib.Core.Bool.{and-eq-true_iff}
 use borrow.Table.Steps.{cases}
 use Rattle.metering.specs.Range.{day_type_valid}
-use Rattle.metering.specs.Laws.{between_true}
+use Rattle.metering.proofs.Laws.{between_true}
 use Rattle.ledger.specs.Table.{chosen_below}
 use Rattle.ledger.specs.Net.{any_of}
 use Rattle.ledger.specs.Band.{BandCall, in_band, band_dates, band_on}

@@ -1,6 +1,6 @@
 -- Lists of bytes: as a test that computes, and their parts.
 use Rattle.std.proofs.Common.{◌≡◌, ℕ, zero, suc, ◌+◌, Bool, true, ◌&&◌, ltb, List, [], ◌∷◌, ◌++◌, take, drop, arith, get_or-drop, ltb-true}
-use Rattle.ledger.specs.Ready.{both}
+use Rattle.ledger.proofs.Ready.{both}
 use Rattle.ledger.specs.Engine.{AreBytes}
 
 abbrev pub all_bytes : List ℕ → Bool

@@ -8,7 +8,7 @@ use borrow.Table.Steps.{cases}
 use borrow.Author.Tests.{eqb-false, lt-leb, not-false}
 use Rattle.metering.specs.Range.{between, meters_in_range, categories_in_range, dates_in_range, day_type_valid, smart_valid, advanced_valid, category_valid}
 use Rattle.metering.specs.Calendar.{duration_known, periods_per_day, period_ending, window_valid}
-use Rattle.metering.specs.Laws.{between_true, duration_is, duration_pos, window_valid_is, whole_periods, periods_per_day_times, period_ending_at, period_ending_is, period_ending_le}
+use Rattle.metering.proofs.Laws.{between_true, duration_is, duration_pos, window_valid_is, whole_periods, periods_per_day_times, period_ending_at, period_ending_is, period_ending_le}
 use Rattle.ledger.specs.Method.{Category, category_at, window_at, is_smart, same_family, ReadingSet, Picture}
 use Rattle.ledger.specs.Checks.{verdict, first_failed, any_below, record_at, same_key, window_number, category_number, day_type_number, or_else, sizes_valid, opening_check, call_number, Registration, RegistrationCall, starts, in_force, appointed, found_in, not_after_last, fields_number, known_number, meter_number, registration_check, ReceptionCall, end_minute, quality, watt_hours_at, is_sender_of, content_number, record_number_if, record_number, header_number, body_check, in_force_check, reception_check, run_check, read_check, totals_in_range, cell_in_range, band_check, lists_short}
 use Rattle.ledger.specs.Ledger.{Opening, windows, window_places, window, categories, dates, periods, category, day_type, Meter, Ledger, accepted, answer, Lengths, settings_short, meters_short, cells_short, days_short, any_short, meter_with, registrations_of, is_held, held_from, ledger_registration_check, ledger_reception_check, is_picture, is_run, ledger_run_check, ledger_totals_check, ledger_coverage_check, ledger_cell_check, ledger_band_check, ledger_answer}

@@ -6,11 +6,11 @@ use borrow.Table.Steps.{cases}
 use borrow.Author.Tests.{eqb-false, not-false}
 use Rattle.metering.specs.Mpan.{mpan_valid}
 use Rattle.metering.specs.Range.{between}
-use Rattle.metering.specs.Laws.{between_true}
+use Rattle.metering.proofs.Laws.{between_true}
 use Rattle.metering.specs.Calendar.{period_ending}
 use Rattle.ledger.specs.Method.{Category}
 use Rattle.ledger.specs.Checks.{Verdict, verdict, first_number, Registration, ReceptionCall, call_number, fields_number, not_after_last, known_number, end_minute, quality, watt_hours_at, content_number, record_number_if, is_sender_of, header_number, run_check, preview_check}
-use Rattle.ledger.specs.Ready.{both}
+use Rattle.ledger.proofs.Ready.{both}
 use Rattle.ledger.specs.Store.{dates_of, row_length, settings_ready, meters_ready, readings_ready, cells_ready, days_ready}
 use Rattle.ledger.specs.Calls.{run_unready, run_verdict, draft_unready, preview_verdict}
 

@@ -6,7 +6,7 @@ use mathlib.Core.Option.{Option, none, some}
 use borrow.Table.Steps.{cases}
 use borrow.Author.Tests.{lt-leb}
 use Rattle.metering.specs.Average.{Rounded}
-use Rattle.metering.specs.Laws.{rounded_is}
+use Rattle.metering.proofs.Laws.{rounded_is}
 use Rattle.ledger.specs.Method.{Category, Picture, watt_hours, present, total, is_enough, fresh_of, fresh_in, Fresh, absent, own, pooled, Cell, Flag, A, D, E, N, blank, own_cell, pooled_cell, is_own_cell, carried, cell_from, Day, not_run, ran, after_date, latest, cell_of, cell_on, same_cell, moved_cell}
 use Rattle.ledger.specs.Checks.{verdict, run_check, read_check, totals_in_range, cell_in_range}
 use Rattle.ledger.specs.Ledger.{categories, dates, periods, category, day_type, Ledger, read_cell, Answer, refused, moved, totals_are, coverage_is, cell_is, answer, Lengths, cells_short, days_short, any_short, at, cell_by, cell_at, day_of, is_picture, is_run, ledger_run_check, ledger_totals_check, ledger_coverage_check, coverage_at, ledger_cell_check, picture_of, after_run, moved_between, totals_at, ledger_answer}

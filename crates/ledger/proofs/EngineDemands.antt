@@ -6,7 +6,7 @@ use native.Mathlib.Nat.{min-eq_left}
 use borrow.Table.Steps.{cases}
 use borrow.Author.Tests.{lt-leb}
 use Rattle.metering.specs.Calendar.{duration_known, window_valid}
-use Rattle.metering.specs.Laws.{between_true}
+use Rattle.metering.proofs.Laws.{between_true}
 use Rattle.metering.specs.Range.{between, meters_in_range, categories_in_range, dates_in_range, day_type_valid, smart_valid, advanced_valid, category_valid}
 use Rattle.ledger.specs.Method.{fresh_in, cell_from, latest, cell_of, cell_on}
 use Rattle.ledger.specs.Fill.{FillCall}
@@ -16,7 +16,8 @@ use Rattle.ledger.specs.Ledger.{Opening, categories, dates, periods, category, d
 use Rattle.ledger.specs.Calls.{opening_verdict}
 use Rattle.ledger.specs.Engine.{Parts, opened_parts, Item, answers_from, store_answers, cut_lengths, ledger_answers, lengths_of, BodyOfBytes, BodiesOfBytes, Every, draft_of}
 use Rattle.ledger.specs.Demands.{ledger_after_items, ledger_beside, LastAnswer, Accepts, EngineReceivesExactly, EngineRuns, Spares, EngineReadsMethod, shape_value, Shared, Fills, EngineFills, EngineCovers, EngineShowsSums, EngineForetells}
-use Rattle.ledger.specs.Marked.{example_opening, example_calls, example_answers, net_opening, net_calls, net_answers, band_opening, band_calls, band_answers, fill_opening, fill_calls, fill_answers, coverage_opening, coverage_calls, coverage_answers, sender_opening, sender_calls, sender_answers, remainder_opening, remainder_calls, remainder_answers, preview_opening, preview_calls, preview_answers, window_opening, window_calls, window_answers, example_draft, ledger_run, worked_examples, lent_least, EngineAnswers, WorkedOnEngine}
+use Rattle.ledger.specs.Marked.{example_opening, example_calls, example_answers, net_opening, net_calls, net_answers, band_opening, band_calls, band_answers, fill_opening, fill_calls, fill_answers, coverage_opening, coverage_calls, coverage_answers, sender_opening, sender_calls, sender_answers, remainder_opening, remainder_calls, remainder_answers, preview_opening, preview_calls, preview_answers, window_opening, window_calls, window_answers, example_draft, ledger_run, lent_least, EngineAnswers, WorkedOnEngine}
+use Rattle.ledger.proofs.Marked.{worked_examples}
 use Rattle.ledger.proofs.Choices.{check_passed}
 use Rattle.ledger.proofs.FirstFailed.{answered}
 use Rattle.ledger.proofs.Verdicts.{left_none}

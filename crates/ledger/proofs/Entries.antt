@@ -7,7 +7,7 @@ use borrow.Author.Tests.{eqb-false}
 use Rattle.ledger.specs.Method.{Flag, A, D, E, N, flag_number, Cell, is_blank, origin_of, blank, own_cell, pooled_cell, is_own_cell, carried, same_integer, same_cell, moved_cell, Fresh, absent, own, pooled, cell_from}
 use Rattle.ledger.specs.Store.{remainder_bits, count_and_origin, entry_of, NothingElse, FitsEntry, flag_of, flag_number_of, cell_of_entry}
 use Rattle.ledger.specs.Calls.{carried_entry, is_own, row_entry, moved_entry}
-use Rattle.ledger.specs.Ready.{both}
+use Rattle.ledger.proofs.Ready.{both}
 
 -- ---- the two leaves: read and put
 

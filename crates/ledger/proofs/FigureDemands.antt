@@ -6,7 +6,7 @@ use borrow.Author.Tests.{eqb-false}
 use Rattle.metering.specs.Sum.{sum_below, sum_below_zero, sum_below_suc, sum_below_le}
 use Rattle.metering.specs.Average.{annual}
 use Rattle.metering.specs.Calendar.{lies_within}
-use Rattle.metering.specs.Laws.{average_is, annual_is, duration_pos, empty_window}
+use Rattle.metering.proofs.Laws.{average_is, annual_is, duration_pos, empty_window}
 use Rattle.ledger.specs.Method.{Category, window_at, Picture, Fresh, absent, fresh_in, Flag, A, D, E, N, flag_number, is_fresh, is_blank, blank, carried, cell_from, Day, not_run, ran, latest, over_run_dates, fresh_among, blanks_among, tot_on, off_on, peak_on, totals_on}
 use Rattle.ledger.specs.Table.{chosen_below}
 use Rattle.ledger.specs.Net.{sum_over}

@@ -1,4 +1,5 @@
 -- The proof of agreement, and laws for the code above.
+pub mod Ready
 pub mod Choices
 pub mod Verdicts
 pub mod Lists
@@ -41,4 +42,5 @@ pub mod WindowDemands
 pub mod CoverageDemands
 pub mod PreviewDemands
 pub mod SizeDemands
+pub mod Marked
 pub mod EngineDemands

@@ -5,14 +5,14 @@ use lib.ListN.{length-replicate, get_or-replicate, get_or-append, get_or-eq_defa
 use borrow.Table.Steps.{cases}
 use borrow.Author.Tests.{not-false}
 use Rattle.metering.specs.Range.{between, meters_in_range, categories_in_range, dates_in_range}
-use Rattle.metering.specs.Laws.{between_true, duration_is}
+use Rattle.metering.proofs.Laws.{between_true, duration_is}
 use Rattle.ledger.specs.Method.{category_at, window_at}
 use Rattle.ledger.specs.Checks.{verdict, first_failed, window_number, category_number, day_type_number, sizes_valid, opening_check}
 use Rattle.ledger.specs.Sizes.{header_length, settings_length, meters_length, readings_length, cells_length, days_length}
 use Rattle.ledger.specs.Opening.{Opening, windows, window_places, window, categories, dates, periods}
 use Rattle.ledger.specs.Ledger.{any_short, meters_short, settings_short}
 use Rattle.ledger.specs.Store.{word, word_bytes, minute_bytes, header_bytes, duration_of, meters_of, categories_of, dates_of, window_of, category_of, day_type_of, mpan_at, registration_index, registration_at, set_index, is_held_at}
-use Rattle.ledger.specs.Ready.{both}
+use Rattle.ledger.proofs.Ready.{both}
 use Rattle.ledger.specs.Calls.{opening_verdict, emptied, opened_settings, row_at}
 use Rattle.ledger.proofs.Choices.{verdict_passed, neither}
 use Rattle.ledger.proofs.Verdicts.{passed_else}

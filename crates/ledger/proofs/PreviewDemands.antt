@@ -7,7 +7,7 @@ use Rattle.ledger.specs.Method.{Cell, blank}
 use Rattle.ledger.specs.Checks.{Verdict, run_check, read_check, totals_in_range, PreviewCall, RowCall, is_published, preview_check, row_check}
 use Rattle.ledger.specs.Sizes.{draft_length}
 use Rattle.ledger.specs.Ledger.{categories, dates, periods, Ledger, Call, register, receive, run, read_totals, read_cell, read_net, search_band, fill_hole, read_coverage, preview, read_row, Answer, moved, cell_is, row_is, left, Lengths, any_short, picture_of, cell_at, is_run, after_run, ledger_run_check, draft_short, ledger_preview_check, after_preview, ledger_row_check, row_shown, ledger_answer, ledger_after}
-use Rattle.ledger.specs.Ready.{cells_long}
+use Rattle.ledger.proofs.Ready.{cells_long}
 use Rattle.ledger.specs.Store.{row_length}
 use Rattle.ledger.specs.Calls.{draft_unready, preview_verdict, previewed, row_verdict, row_for, overwritten}
 use Rattle.ledger.specs.Engine.{Parts, call_answer, with_draft, leaves, Item, cut, restored, parts_after, answers_from, store_answers}

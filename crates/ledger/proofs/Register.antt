@@ -3,7 +3,7 @@ use Rattle.std.proofs.Common.{◌≡◌, ℕ, zero, suc, ◌+◌, ◌<◌, ◌�
 use mathlib.Core.Option.{Option, none, some}
 use borrow.Table.Steps.{cases}
 use Rattle.metering.specs.Mpan.{mpan_valid}
-use Rattle.metering.specs.Laws.{mpan_valid_bounds}
+use Rattle.metering.proofs.Laws.{mpan_valid_bounds}
 use Rattle.ledger.specs.Checks.{Registration, RegistrationCall, first_number, call_number, registered, start_of, any_below, meter_number, registration_check}
 use Rattle.ledger.specs.Ledger.{Opening, categories, dates, Meter, Ledger, meter_with, changed, registrations_of, held_from, with_registration, register_in}
 use Rattle.ledger.specs.Store.{used_from, meters_of, dates_of, categories_of, periods_of, mpan_at, slot_of, registration_at, registrations_at, known_at, put_registration}

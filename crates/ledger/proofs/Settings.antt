@@ -4,7 +4,7 @@ use borrow.Table.Steps.{cases}
 use borrow.Author.Tests.{lt-leb}
 use Rattle.metering.specs.Range.{between, meters_in_range, categories_in_range, dates_in_range}
 use Rattle.metering.specs.Calendar.{duration_known}
-use Rattle.metering.specs.Laws.{between_true}
+use Rattle.metering.proofs.Laws.{between_true}
 use Rattle.ledger.specs.Method.{category_at}
 use Rattle.ledger.specs.Sizes.{header_length, settings_length, meters_length, readings_length, cells_length, days_length}
 use Rattle.ledger.specs.Ledger.{Opening, categories, dates, periods, settings_short, meters_short, cells_short, days_short, any_short}

@@ -5,7 +5,7 @@ use mathlib.Core.Option.{Option, none, some}
 use lib.Signed.{mag}
 use Rattle.metering.specs.Sum.{sum_below}
 use Rattle.metering.specs.Average.{average, remainder}
-use Rattle.metering.specs.Laws.{average_le, remainder_small}
+use Rattle.metering.proofs.Laws.{average_le, remainder_small}
 use Rattle.ledger.specs.Method.{ReadingSet, Picture, watt_hours, present, total, is_enough}
 use Rattle.ledger.proofs.Lists.{sum_below_cong, sum_below_none, sum_below_plus, sum_below_front, sum_below_one}
 use Rattle.ledger.specs.Checks.{Registration, in_force}

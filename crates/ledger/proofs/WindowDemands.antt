@@ -5,7 +5,7 @@ use borrow.Table.Steps.{cases}
 use borrow.Author.Tests.{eqb-false}
 use Rattle.metering.specs.Sum.{sum_below}
 use Rattle.metering.specs.Calendar.{duration_known, periods_per_day, lies_within, window_valid}
-use Rattle.metering.specs.Laws.{duration_is, duration_pos, lies_within_true, window_valid_is, window_periods, whole_periods}
+use Rattle.metering.proofs.Laws.{duration_is, duration_pos, lies_within_true, window_valid_is, window_periods, whole_periods}
 use Rattle.ledger.specs.Method.{window_at, tot_on, off_on, totals_on}
 use Rattle.ledger.specs.Table.{tabulate}
 use Rattle.ledger.specs.Net.{sum_over}

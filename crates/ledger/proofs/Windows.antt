@@ -6,7 +6,7 @@ use borrow.Table.Steps.{cases}
 use borrow.Author.Tests.{lt-leb}
 use Rattle.metering.specs.Sum.{sum_below}
 use Rattle.metering.specs.Calendar.{window_valid}
-use Rattle.metering.specs.Laws.{window_valid_is}
+use Rattle.metering.proofs.Laws.{window_valid_is}
 use Rattle.ledger.specs.Checks.{window_number}
 use Rattle.ledger.specs.Store.{word_bytes, minute_bytes}
 use Rattle.ledger.proofs.Lists.{below_suc, sum_below_more, sum_below_none, sum_below_cong}

@@ -9,7 +9,6 @@ pub mod Checks
 pub mod Sizes
 pub mod Ledger
 pub mod Store
-pub mod Ready
 pub mod Calls
 pub mod Engine
 pub mod Demands

@@ -59,10 +59,6 @@ marked_list =
     && same_cell (first_cell (two_groups 3) (reads 0 100 ∷ reads 1 200 ∷ reads 1 600 ∷ [])) (record { flag = D; value = 300; count = 3; origin = 0; remainder = pos 0 })
     && annual 1000 3 == 121667
 
-pub marked_list_lem : marked_list ≡ true
-unfolding marked_list mpan_valid check_digit weighted_sum product digit weights sum_below average remainder annual record_number period_ending window_is every_period periods_per_day lies_within window_at between same_cell first_cell blank cell_on cell_of cell_from latest fresh_in fresh_of is_enough total is_smart same_family any_below end_minute quality watt_hours_at carried record_number_if content_number
-marked_list_lem = refl
-
 -- ---- the worked example
 
 abbrev pub example_mpan : ℕ
@@ -661,28 +657,11 @@ window_list =
     && opens_with 30 (repeated 8) 8 0 0 && opens_with 30 (repeated 9) 9 19 9 && opens_with 30 (repeated 20) 8 19 9
     && opens_with 30 (0 ∷ 420 ∷ []) 2 4 1 && opens_with 60 (0 ∷ 45 ∷ []) 1 3 0
 
-pub window_list_lem : window_list ≡ true
-unfolding window_list opens_with repeated opening_check sizes_valid duration_known meters_in_range categories_in_range dates_in_range between window_number window_valid category_number category_valid smart_valid advanced_valid record_at any_below day_type_number day_type_valid first_failed or_else
-window_list_lem = refl
-
 -- ---- all nine, computed
 
 -- beside a draft of 96 entries that are 0 at first
 abbrev pub example_draft : List ℕ
 example_draft = replicate 96 0
-
-pub worked_examples :
-    (ledger_run (start example_opening (draft_of example_opening example_draft)) (least_lengths example_opening) example_calls ≡ example_answers)
-    × (ledger_run (start net_opening (draft_of net_opening example_draft)) (least_lengths net_opening) net_calls ≡ net_answers)
-    × (ledger_run (start band_opening (draft_of band_opening example_draft)) (least_lengths band_opening) band_calls ≡ band_answers)
-    × (ledger_run (start fill_opening (draft_of fill_opening example_draft)) (least_lengths fill_opening) fill_calls ≡ fill_answers)
-    × (ledger_run (start coverage_opening (draft_of coverage_opening example_draft)) (least_lengths coverage_opening) coverage_calls ≡ coverage_answers)
-    × (ledger_run (start sender_opening (draft_of sender_opening example_draft)) (least_lengths sender_opening) sender_calls ≡ sender_answers)
-    × (ledger_run (start remainder_opening (draft_of remainder_opening example_draft)) (least_lengths remainder_opening) remainder_calls ≡ remainder_answers)
-    × (ledger_run (start preview_opening (draft_of preview_opening example_draft)) (least_lengths preview_opening) preview_calls ≡ preview_answers)
-    × (ledger_run (start window_opening (draft_of window_opening example_draft)) (least_lengths window_opening) window_calls ≡ window_answers)
-unfolding ledger_run start ledger_answer ledger_after answer left settings_short meters_short cells_short any_short meter_with changed held_from ledger_registration_check register_in after_registration ledger_reception_check set_of at after_reception cell_by cell_at is_run ledger_run_check picture_of after_run moved_between ledger_totals_check ledger_cell_check totals_at settings_length meters_length readings_length cells_length first_failed moment_of start_of starts later latest_from in_force appointed not_after_last meter_number registration_check body_check in_force_check reception_check is_reading reading_in run_check read_check totals_in_range cell_in_range moved_cell over_run_dates tot_on off_on peak_on totals_on category_at mpan_valid check_digit weighted_sum product digit weights sum_below average remainder annual record_number period_ending periods_per_day lies_within window_at between same_cell blank cell_on cell_of cell_from latest after_date fresh_in fresh_of is_enough total is_smart same_family any_below end_minute quality watt_hours_at carried net_check lists_short may_net ledger_net_check side_at net_at on_side chosen_below side_of sum_over any_of signed_sum net_period mark_of net_tot net_tot7 net_on tabulate or_else first_number call_number fields_number known_number header_number record_number_if content_number band_check ledger_band_check band_at band_on band_dates in_band day_type_valid fill_check ledger_fill_check shape_at weight_at fill_at is_opted_out_shape shape_category first_from weight_by may_fill comes_before count_before whole_part remainder_of left_over filled_value filled_values days_length days_short ledger_coverage_check coverage_at fresh_among blanks_among origin_of oldest_among coverage_on draft_length draft_short preview_check row_check ledger_preview_check after_preview ledger_row_check row_shown row_with cell_of_entry flag_number_of
-worked_examples = (refl, refl, refl, refl, refl, refl, refl, refl, refl)
 
 -- ---- the same on the engine, from its opening on
 

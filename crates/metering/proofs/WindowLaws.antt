@@ -9,7 +9,7 @@ use borrow.Table.Steps.{cases}
 use borrow.Author.Tests.{le-leb, lt-leb, leb-true, leb-false, le-ltb}
 use lib.Dec.{leb, ltb}
 use Rattle.metering.specs.Calendar.{periods_per_day, lies_within, BegunBefore, EndedBy, covers, PeriodsWithin}
-use Rattle.metering.specs.Laws.{whole_periods}
+use Rattle.metering.proofs.Laws.{whole_periods}
 
 pub known_some : (d : ℕ) → (d ≡ 15) ⊎ (d ≡ 30) → 0 < d
 known_some d known = ⊎_elim (λ e. omega arith) (λ e. omega arith) known

@@ -4,4 +4,3 @@ pub mod Mpan
 pub mod Calendar
 pub mod Average
 pub mod Range
-pub mod Laws

@@ -10,7 +10,7 @@ use borrow.Author.Tests.{leb-false, ltb-true, ltb-false, eq-eqb, ne_eqb, not-fal
 use lib.Dec.{eqb}
 use lib.ListN.{length, take, drop}
 use borrow.Table.Steps.{cases}
-use Rattle.ledger.specs.Ready.{ready, periods_bound, row_bounds}
+use Rattle.ledger.proofs.Ready.{ready, periods_bound, row_bounds}
 use Rattle.ledger.specs.Checks.{Verdict, read_check, totals_in_range, RowCall, row_check}
 use Rattle.ledger.specs.Ledger.{answer, left, row_is}
 use Rattle.ledger.specs.Engine.{cells_of}

@@ -10,7 +10,7 @@ use lib.Arith.{digits_div, digits_mod}
 use lib.ListN.{length, get_or, take, drop, replicate, get_or-replicate, get_or-append}
 use borrow.Table.Steps.{cases}
 use Rattle.ledger.specs.Method.{watt_hours, present, same_family, blank}
-use Rattle.ledger.specs.Ready.{Ready, ready, row_bounds, cells_long}
+use Rattle.ledger.proofs.Ready.{Ready, ready, row_bounds, cells_long}
 use Rattle.ledger.specs.Store.{meters_of, categories_of, dates_of, periods_of, row_length, category_of, day_type_of, settings_ready, reading_at, count_and_origin, entry_of}
 use Rattle.ledger.specs.Table.{tabulate, filling}
 use Rattle.ledger.specs.Calls.{counts_for, tally, family_tally, fresh_at, row_at, Published, as_published, Placing, publish, count_only, last_run, inherited_from, compared_entry, differing, carried_entry, Ran, carry_on, moved_by_row, settled, new_row, ran_from, moved_from, run_verdict, preview_verdict, previewed, overwritten}

@@ -8,7 +8,7 @@ use lib.ListN.{length}
 use borrow.Author.Tests.{lt-leb}
 use Rattle.metering.specs.Range.{meters_in_range, categories_in_range, dates_in_range}
 use Rattle.metering.specs.Calendar.{duration_known}
-use Rattle.metering.specs.Laws.{between_true}
+use Rattle.metering.proofs.Laws.{between_true}
 use Rattle.ledger.specs.Sizes.{header_length, settings_length}
 use Rattle.ledger.specs.Store.{duration_of, meters_of, categories_of, dates_of, is_opened, settings_ready}
 

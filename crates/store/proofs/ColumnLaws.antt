@@ -9,7 +9,7 @@ use lib.ListN.{length}
 use borrow.Author.Tests.{leb-true, not-false}
 use Rattle.ledger.specs.Sizes.{cells_length}
 use Rattle.ledger.specs.Store.{categories_of, dates_of, periods_of, settings_ready, cells_ready, cell_index}
-use Rattle.ledger.specs.Ready.{ready, periods_bound}
+use Rattle.ledger.proofs.Ready.{ready, periods_bound}
 use Rattle.ledger.specs.Calls.{cells_unready}
 use Rattle.store.specs.declared.column.Column.{Column}
 use Rattle.store.specs.Column.{column_of, beside, place_in, Reaches}

@@ -8,7 +8,7 @@ use native.Mathlib.Nat.{mul-le-mul_right}
 use lib.ListN.{length}
 use borrow.Author.Tests.{leb-true, not-false}
 use Rattle.ledger.specs.Sizes.{days_length}
-use Rattle.ledger.specs.Ready.{ready}
+use Rattle.ledger.proofs.Ready.{ready}
 use Rattle.ledger.specs.Store.{categories_of, dates_of, settings_ready, days_ready, day_row, day_index}
 use Rattle.ledger.specs.Calls.{days_unready}
 use Rattle.store.specs.DayRows.{RowsFit}

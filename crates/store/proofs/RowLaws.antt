@@ -6,7 +6,7 @@ use mathlib.Core.List.{List}
 use native.Mathlib.Nat.{mul-le-mul_right, suc-mul}
 use native.Mathlib.Omega.{arith}
 use lib.ListN.{length}
-use Rattle.ledger.specs.Ready.{cells_long}
+use Rattle.ledger.proofs.Ready.{cells_long}
 use Rattle.ledger.specs.Store.{dates_of, row_length, cells_ready, days_ready}
 
 pub row_fits : (s cells : List ℕ) (d : ℕ) → cells_ready s cells ≡ true → d < dates_of s → d * row_length s + row_length s ≤ length cells

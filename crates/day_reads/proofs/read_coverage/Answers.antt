@@ -5,7 +5,7 @@ use Rattle.ledger.proofs.Verdicts.{refused_is, given_is}
 use Rattle.store.proofs.DayLaws.{row_known, row_there}
 use Rattle.day_reads.specs.DayAccepted.{DayAccepted}
 use Rattle.day_reads.proofs.Laws.{place_is, passed, fits, covered}
-use Rattle.ledger.specs.Ready.{header_there}
+use Rattle.ledger.proofs.Ready.{header_there}
 use Rattle.day_reads.proofs.read_coverage.Goals as goal
 use Rattle.day_reads.proofs.read_coverage.Goals.{Else-number-ne0}
 

@@ -1,6 +1,6 @@
 -- `read_net` meets its contract: the first failed check's number, or the net.
 use Rattle.std.proofs.Common.{◌<◌, ◌≡◌, refl, sym, ◌∙◌, false, arith, length}
-use Rattle.ledger.specs.Ready.{header_there}
+use Rattle.ledger.proofs.Ready.{header_there}
 use Rattle.ledger.specs.Store.{categories_of, dates_of}
 use Rattle.ledger.specs.Calls.{days_unready, net_verdict}
 use Rattle.net.specs.Asked.{net_call}

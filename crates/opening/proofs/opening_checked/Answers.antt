@@ -4,7 +4,7 @@ use borrow.Author.Tests.{not-true, not-false}
 use Rattle.ledger.specs.Opening.{Opening, windows, window_places, categories, dates}
 use Rattle.ledger.specs.Checks.{first_failed, window_number, category_number, day_type_number, sizes_valid}
 use Rattle.ledger.specs.Ledger.{any_short, answer, accepted}
-use Rattle.metering.specs.Laws.{duration_pos}
+use Rattle.metering.proofs.Laws.{duration_pos}
 use Rattle.ledger.proofs.Settings.{duration_known_lem}
 use Rattle.ledger.proofs.Open.{sizes_valid_lem}
 use Rattle.store.specs.Outcome.{answer_of}

@@ -3,7 +3,7 @@ use mathlib.Core.Path.{◌≡◌, sym, ◌∙◌}
 use mathlib.Core.Bool.{false}
 use borrow.Author.Rules.{rules}
 use borrow.Author.Tests.{le-leb, lt-leb}
-use Rattle.ledger.specs.Ready.{header_there}
+use Rattle.ledger.proofs.Ready.{header_there}
 use Rattle.ledger.specs.Checks.{run_check}
 use Rattle.ledger.specs.Calls.{run_unready, run_verdict}
 use Rattle.ledger.proofs.Choices.{parts_ready}

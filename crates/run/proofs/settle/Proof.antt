@@ -4,7 +4,7 @@ use mathlib.Core.Path.{◌≡◌, refl, ap, ◌∙◌}
 use native.Mathlib.Omega.{arith}
 use borrow.Author.Rules.{rules}
 use lib.ListN.{length}
-use Rattle.ledger.specs.Ready.{ready, row_bounds}
+use Rattle.ledger.proofs.Ready.{ready, row_bounds}
 use Rattle.ledger.specs.Store.{row_length}
 use Rattle.ledger.specs.Calls.{as_published, publish}
 use Rattle.store.proofs.RowLaws.{row_fits, still_ready, days_still_ready}

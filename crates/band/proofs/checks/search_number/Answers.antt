@@ -1,5 +1,5 @@
 -- `search_number` meets its contract: 1 comes before 15.
-use Rattle.ledger.specs.Ready.{header_there}
+use Rattle.ledger.proofs.Ready.{header_there}
 use Rattle.store.proofs.DayLaws.{days_lent}
 use Rattle.band.proofs.checks.search_number.Goals as goal
 

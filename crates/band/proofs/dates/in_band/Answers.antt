@@ -1,7 +1,7 @@
 -- `in_band` meets its contract: each test that fails makes the definition's `&&` false, and the last one decides.
 use Rattle.std.proofs.Common.{◌≡◌, ap, ◌∙◌, arith, get_or}
-use Rattle.metering.specs.Laws.{test_failed, test_passed}
-use Rattle.ledger.specs.Ready.{header_there}
+use Rattle.metering.proofs.Laws.{test_failed, test_passed}
+use Rattle.ledger.proofs.Ready.{header_there}
 use Rattle.ledger.specs.Store.{tot_row, day_index, energy_of}
 use Rattle.store.proofs.DayLaws.{row_known, row_there, mark_there}
 use Rattle.band.proofs.Laws.{fits, other_type, not_run_lem, below_least, most_decides}

@@ -1,7 +1,7 @@
 -- `list_dates` meets its contract. The invariant: the dates in the band below the one reached are counted, and listed as far as there is room.
 use Rattle.std.proofs.Common.{◌-◌, ◌<◌, arith}
 use Rattle.ledger.specs.Store.{dates_of}
-use Rattle.ledger.specs.Ready.{ready, header_there}
+use Rattle.ledger.proofs.Ready.{ready, header_there}
 use Rattle.band.proofs.Laws.{none_yet, one_more, listing_few}
 use Rattle.band.proofs.dates.list_dates.Goals as goal
 use Rattle.band.proofs.dates.list_dates.Goals.{In-loop-date}

@@ -1,7 +1,7 @@
 -- `check::day_number` meets its contract: the checks in the definition's order.
 use Rattle.std.proofs.Common.{◌≡◌, ◌<◌, sym, ap, ◌∙◌}
 use borrow.Author.Tests.{not-true, not-false}
-use Rattle.ledger.specs.Ready.{header_there}
+use Rattle.ledger.proofs.Ready.{header_there}
 use Rattle.ledger.specs.Store.{categories_of, dates_of, is_run_day}
 use Rattle.store.proofs.DayLaws.{days_lent, mark_there}
 use Rattle.day_reads.specs.DayAccepted.{DayAccepted}

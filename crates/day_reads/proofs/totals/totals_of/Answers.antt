@@ -1,6 +1,6 @@
 -- `totals::totals_of` meets its contract: entries and sums are looked up where the definition has them.
 use Rattle.std.proofs.Common.{◌∙◌, arith}
-use Rattle.ledger.specs.Ready.{header_there}
+use Rattle.ledger.proofs.Ready.{header_there}
 use Rattle.store.proofs.DayLaws.{row_known, row_there, sum_there}
 use Rattle.day_reads.proofs.Laws.{fits, totalled}
 use Rattle.day_reads.proofs.totals.totals_of.Goals as goal

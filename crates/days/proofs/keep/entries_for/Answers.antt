@@ -1,6 +1,6 @@
 -- `keep::entries_for` meets its contract: OFF is over the category's own window.
 use Rattle.std.proofs.Common.{◌+◌, ◌≤◌, get_or, ◌∙◌, inl, inr, ⊎_elim}
-use Rattle.ledger.specs.Ready.{ready, header_there, periods_bound}
+use Rattle.ledger.proofs.Ready.{ready, header_there, periods_bound}
 use Rattle.ledger.specs.Store.{periods_of, cell_of_entry}
 use Rattle.settings.specs.Window.{window_meant}
 use Rattle.days.proofs.Laws.{entries_are}

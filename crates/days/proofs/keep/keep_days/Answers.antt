@@ -1,6 +1,6 @@
 -- `keep::keep_days` meets its contract: the days of the first categories are put, and `at` is where the next one's stretch starts.
 use Rattle.std.proofs.Common.{◌≡◌, ◌+◌, ◌-◌, ◌<◌, ◌≤◌, length, sym, refl, ◌∙◌, zero-mul, arith}
-use Rattle.ledger.specs.Ready.{ready}
+use Rattle.ledger.proofs.Ready.{ready}
 use Rattle.ledger.specs.Store.{categories_of, periods_of}
 use Rattle.store.proofs.DayLaws.{days_long, rows_fit}
 use Rattle.days.proofs.Laws.{stretch_fits, kept_next, none_kept, next_start}

@@ -1,7 +1,7 @@
 -- `opted_out_category` meets its contract. The invariant: the search on what is left, from here, finds what the whole search finds.
 use Rattle.std.proofs.Common.{◌-◌, ◌≡◌, sym, ◌∙◌, arith}
 use Rattle.ledger.specs.Fill.{is_opted_out_shape, shape_category}
-use Rattle.ledger.specs.Ready.{ready}
+use Rattle.ledger.proofs.Ready.{ready}
 use Rattle.ledger.proofs.Chosen.{first_here, first_later, first_none}
 use Rattle.fill.proofs.opted_out.opted_out_category.Goals as goal
 

@@ -1,6 +1,6 @@
 -- `later_dates::count::count_later` meets its contract: what is left of the walk gives what the whole gives.
 use Rattle.std.proofs.Common.{◌+◌, ◌-◌, ◌<◌, ap, arith}
-use Rattle.ledger.specs.Ready.{ready, header_there}
+use Rattle.ledger.proofs.Ready.{ready, header_there}
 use Rattle.ledger.specs.Store.{dates_of}
 use Rattle.ledger.specs.Calls.{Ran}
 use Rattle.later_dates.proofs.Laws.{walk_end, walk_room}

@@ -1,6 +1,6 @@
 -- `later_dates::count::count_step` meets its contract: a date that is no predecessor is passed over, the copy of another's row is followed.
 use Rattle.std.proofs.Common.{ℕ, ◌+◌, ◌-◌, ◌*◌, ◌≤◌, ◌≡◌, sym, ap, ◌∙◌, [], arith, length, take, drop}
-use Rattle.ledger.specs.Ready.{ready, row_bounds}
+use Rattle.ledger.proofs.Ready.{ready, row_bounds}
 use Rattle.ledger.specs.Store.{row_length}
 use Rattle.ledger.specs.Calls.{count_only, as_published}
 use Rattle.ledger.proofs.Lists.{front_is}

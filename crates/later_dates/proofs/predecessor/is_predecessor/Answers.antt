@@ -1,6 +1,6 @@
 -- `later_dates::predecessor::is_predecessor` meets its contract: the two tests are the definition's.
 use Rattle.std.proofs.Common.{arith}
-use Rattle.ledger.specs.Ready.{ready, periods_bound, row_bounds}
+use Rattle.ledger.proofs.Ready.{ready, periods_bound, row_bounds}
 use Rattle.store.proofs.RowLaws.{row_fits}
 use Rattle.later_dates.proofs.predecessor.is_predecessor.Goals as goal
 

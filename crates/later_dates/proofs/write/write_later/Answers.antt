@@ -1,6 +1,6 @@
 -- `later_dates::write::write_later` meets its contract: what is left of the walk gives what the whole gives.
 use Rattle.std.proofs.Common.{◌+◌, ◌-◌, ◌<◌, arith}
-use Rattle.ledger.specs.Ready.{ready, header_there}
+use Rattle.ledger.proofs.Ready.{ready, header_there}
 use Rattle.ledger.specs.Store.{dates_of}
 use Rattle.store.proofs.RowLaws.{still_ready, days_still_ready}
 use Rattle.later_dates.proofs.Laws.{walk_end, walk_room}

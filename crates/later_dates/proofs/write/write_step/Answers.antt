@@ -1,6 +1,6 @@
 -- `later_dates::write::write_step` meets its contract: a date that is no predecessor is passed over, the part lent of another is its row, and follows.
 use Rattle.std.proofs.Common.{ℕ, ◌+◌, ◌-◌, ◌*◌, ◌≤◌, ◌≡◌, sym, ap, ◌∙◌, arith, length}
-use Rattle.ledger.specs.Ready.{ready, row_bounds}
+use Rattle.ledger.proofs.Ready.{ready, row_bounds}
 use Rattle.ledger.specs.Store.{row_length}
 use Rattle.ledger.specs.Calls.{publish, as_published}
 use Rattle.store.proofs.RowLaws.{row_fits}

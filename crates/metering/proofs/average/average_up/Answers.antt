@@ -4,7 +4,7 @@ use Rattle.std.proofs.Common.{◌<◌, ◌+◌, ◌-◌, ◌/◌, ◌%◌, sym, 
 use native.Mathlib.Nat.{div-add-mod}
 use lib.IntN.{+ℤ_idr}
 use mir.Facts.{to_z-of_z}
-use Rattle.metering.specs.Laws.{average_is, remainder_is}
+use Rattle.metering.proofs.Laws.{average_is, remainder_is}
 use Rattle.metering.proofs.SignedLaws.{to_z_pos, minus_fits}
 use Rattle.metering.proofs.average.average_up.Goals as goal
 use Rattle.metering.proofs.average.average_up.Goals.{Else-left-lacking}

@@ -1,7 +1,7 @@
 -- `mpan_valid` meets its contract: the definition's `&&` computes from the two tests, and then compares the same two digits.
 use Rattle.std.proofs.Common.{arith, le-leb}
 use Rattle.metering.specs.Mpan.{check_digit, mpan_valid}
-use Rattle.metering.specs.Laws.{digit_last}
+use Rattle.metering.proofs.Laws.{digit_last}
 use Rattle.metering.proofs.mpan.mpan_valid.Goals as goal
 
 pub returns : goal.returns

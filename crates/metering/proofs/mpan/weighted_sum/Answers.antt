@@ -4,7 +4,7 @@ use Rattle.std.proofs.Common.{ℕ, suc, ◌≤◌, ◌<◌, ◌+◌, ◌*◌, �
 use native.Mathlib.Nat.{div-div-eq-div-mul}
 use Rattle.metering.specs.Sum.{sum_below, sum_below_suc, sum_below_zero}
 use Rattle.metering.specs.Mpan.{weights, digit, product}
-use Rattle.metering.specs.Laws.{weighted_sum_le}
+use Rattle.metering.proofs.Laws.{weighted_sum_le}
 use Rattle.metering.proofs.mpan.weighted_sum.Goals as goal
 use Rattle.metering.proofs.mpan.weighted_sum.Goals.{In-loop-i}
 

@@ -1,6 +1,6 @@
 -- `sizes::least_lengths` meets its contract: sizes in range give products far below 2 ^ 64.
 use Rattle.std.proofs.Common.{◌≤◌, []}
-use Rattle.metering.specs.Laws.{duration_pos}
+use Rattle.metering.proofs.Laws.{duration_pos}
 use Rattle.ledger.proofs.Relation.{Valid}
 use Rattle.ledger.proofs.Runs.{valid_periods}
 use Rattle.ledger.proofs.Settings.{duration_known_lem}

@@ -1,6 +1,6 @@
 -- `reads::checks::category_number` meets its contract.
 use Rattle.std.proofs.Common.{arith}
-use Rattle.ledger.specs.Ready.{ready}
+use Rattle.ledger.proofs.Ready.{ready}
 use Rattle.reads.proofs.checks.category_number.Goals as goal
 
 pub category_count-requires : goal.category_count-requires

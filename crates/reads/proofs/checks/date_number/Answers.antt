@@ -1,6 +1,6 @@
 -- `date_number` meets its contract.
 use Rattle.std.proofs.Common.{arith}
-use Rattle.ledger.specs.Ready.{ready}
+use Rattle.ledger.proofs.Ready.{ready}
 use Rattle.reads.proofs.checks.date_number.Goals as goal
 
 pub date_count-requires : goal.date_count-requires

@@ -1,6 +1,6 @@
 -- `run_number` meets its contract: category 0 is there, and its column says whether the date is run.
 use Rattle.std.proofs.Common.{arith}
-use Rattle.ledger.specs.Ready.{ready}
+use Rattle.ledger.proofs.Ready.{ready}
 use Rattle.store.proofs.ColumnLaws.{column_reaches}
 use Rattle.reads.proofs.checks.run_number.Goals as goal
 

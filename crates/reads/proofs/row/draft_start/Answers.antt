@@ -1,6 +1,6 @@
 -- `reads::row::draft_start` meets its contract.
 use Rattle.std.proofs.Common.{arith}
-use Rattle.ledger.specs.Ready.{ready, periods_bound}
+use Rattle.ledger.proofs.Ready.{ready, periods_bound}
 use Rattle.reads.proofs.row.draft_start.Goals as goal
 
 pub category_start-requires : goal.category_start-requires

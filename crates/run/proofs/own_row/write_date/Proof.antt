@@ -5,7 +5,7 @@ use native.Mathlib.Omega.{arith}
 use borrow.Author.Rules.{rules}
 use borrow.Rule.Slice.PartMut.{same_len_mid}
 use lib.ListN.{length}
-use Rattle.ledger.specs.Ready.{ready}
+use Rattle.ledger.proofs.Ready.{ready}
 use Rattle.ledger.specs.Store.{row_length}
 use Rattle.ledger.specs.Calls.{row_at, compared_entry, moved_by_row}
 use Rattle.store.proofs.RowLaws.{row_fits}

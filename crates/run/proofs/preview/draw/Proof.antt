@@ -5,7 +5,7 @@ use mathlib.Core.List.{[]}
 use native.Mathlib.Omega.{arith}
 use borrow.Author.Rules.{rules}
 use lib.ListN.{length}
-use Rattle.ledger.specs.Ready.{ready, row_bounds}
+use Rattle.ledger.proofs.Ready.{ready, row_bounds}
 use Rattle.ledger.specs.Store.{row_length}
 use Rattle.ledger.specs.Calls.{as_published, count_only, Ran, moved_by_row}
 use Rattle.run_date.specs.Sums.{row_from}

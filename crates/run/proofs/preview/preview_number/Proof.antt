@@ -5,7 +5,7 @@ use borrow.Author.Rules.{rules}
 use borrow.Author.Tests.{le-leb, lt-leb, lt-ltb, le-ltb}
 use lib.Dec.{ltb}
 use lib.ListN.{length}
-use Rattle.ledger.specs.Ready.{header_there}
+use Rattle.ledger.proofs.Ready.{header_there}
 use Rattle.ledger.specs.Checks.{run_check, preview_check}
 use Rattle.ledger.specs.Store.{row_length}
 use Rattle.ledger.specs.Calls.{run_unready, draft_unready, preview_verdict}

@@ -1,6 +1,6 @@
 -- `run::sources::gather` meets its contract: both rows are tallied from empty ones, what is taken over stands on blank, and the row made from them is the definition's.
 use borrow.Author.Rules.{rules}
-use Rattle.ledger.specs.Ready.{ready}
+use Rattle.ledger.proofs.Ready.{ready}
 use Rattle.ledger.specs.Method.{watt_hours, present}
 use Rattle.run_date.proofs.Laws.{tallied_zero}
 use Rattle.run.proofs.Laws.{tallied_bounded, new_is}

@@ -1,7 +1,7 @@
 -- `run_date::write::write_category` meets its contract: the family's rows start empty, and the row's writer puts what the definition says.
 use Rattle.std.proofs.Common.{ℕ, ◌*◌, ◌<◌, ◌≡◌, ap, ◌∙◌, arith, length, get_or, replicate}
 use lib.ListN.{get_or-replicate}
-use Rattle.ledger.specs.Ready.{ready, periods_bound}
+use Rattle.ledger.proofs.Ready.{ready, periods_bound}
 use Rattle.ledger.specs.Store.{periods_of}
 use Rattle.run_date.proofs.Laws.{start_asks, stretch, pooled_zero, averaged_own, averaged_family, category_gives}
 use Rattle.run_date.proofs.write.write_category.Goals as goal

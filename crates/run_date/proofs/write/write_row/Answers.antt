@@ -1,6 +1,6 @@
 -- `run_date::write::write_row` meets its contract: after each turn the stretches of the categories passed are written and counted.
 use Rattle.std.proofs.Common.{ℕ, ◌+◌, ◌-◌, ◌*◌, ◌<◌, ◌≤◌, ◌≡◌, refl, sym, ap, ◌∙◌, arith, length}
-use Rattle.ledger.specs.Ready.{ready, row_bounds, header_there}
+use Rattle.ledger.proofs.Ready.{ready, row_bounds, header_there}
 use Rattle.ledger.specs.Store.{categories_of, periods_of, row_length}
 use Rattle.ledger.specs.Calls.{differing}
 use Rattle.entries.proofs.RowLaws.{filled_whole, differing_le, counted}

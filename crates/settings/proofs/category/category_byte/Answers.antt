@@ -1,7 +1,7 @@
 -- `category_byte` meets its contract: the records start behind the header.
 use Rattle.std.proofs.Common.{arith, ◌+◌, ◌*◌, sym, ◌∙◌, get_or-drop}
 use Rattle.ledger.specs.Sizes.{header_length}
-use Rattle.ledger.specs.Ready.{ready}
+use Rattle.ledger.proofs.Ready.{ready}
 use Rattle.settings.proofs.category.category_byte.Goals as goal
 
 pub overflow_mul-category : goal.overflow_mul-category

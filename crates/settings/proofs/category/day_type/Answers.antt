@@ -1,6 +1,6 @@
 -- `day_type` meets its contract: the day types follow the category records.
 use Rattle.std.proofs.Common.{arith}
-use Rattle.ledger.specs.Ready.{ready}
+use Rattle.ledger.proofs.Ready.{ready}
 use Rattle.settings.proofs.category.day_type.Goals as goal
 
 pub category_count-requires : goal.category_count-requires

@@ -1,6 +1,6 @@
 -- `period_count` meets its contract: a ready duration is not 0.
 use Rattle.std.proofs.Common.{arith, ⊎_elim}
-use Rattle.ledger.specs.Ready.{ready}
+use Rattle.ledger.proofs.Ready.{ready}
 use Rattle.settings.proofs.header.period_count.Goals as goal
 
 pub duration-requires : goal.duration-requires

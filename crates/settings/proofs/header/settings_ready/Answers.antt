@@ -1,6 +1,6 @@
 -- `settings_ready` meets its contract. Fewer bytes than the header's are fewer than any least length.
 use Rattle.std.proofs.Common.{arith, sym}
-use Rattle.metering.specs.Laws.{test_passed}
+use Rattle.metering.proofs.Laws.{test_passed}
 use Rattle.settings.proofs.Laws.{opened_bounds, short_unready}
 use Rattle.settings.proofs.header.settings_ready.Goals as goal
 

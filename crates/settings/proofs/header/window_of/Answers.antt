@@ -1,6 +1,6 @@
 -- `header::window_of` meets its contract: each of eight windows has two numbers of the header.
 use Rattle.std.proofs.Common.{◌≤◌, arith}
-use Rattle.metering.specs.Laws.{test_passed, between_true}
+use Rattle.metering.proofs.Laws.{test_passed, between_true}
 use Rattle.settings.proofs.header.window_of.Goals as goal
 use Rattle.settings.proofs.header.window_of.Goals.{Else-not-between}
 

@@ -1,6 +1,6 @@
 -- `cells_ready` meets its contract.
 use Rattle.std.proofs.Common.{arith}
-use Rattle.ledger.specs.Ready.{ready, periods_bound}
+use Rattle.ledger.proofs.Ready.{ready, periods_bound}
 use Rattle.settings.proofs.ready.cells_ready.Goals as goal
 
 pub category_count-requires : goal.category_count-requires

@@ -1,6 +1,6 @@
 -- `days_ready` meets its contract.
 use Rattle.std.proofs.Common.{arith}
-use Rattle.ledger.specs.Ready.{ready}
+use Rattle.ledger.proofs.Ready.{ready}
 use Rattle.settings.proofs.ready.days_ready.Goals as goal
 
 pub category_count-requires : goal.category_count-requires

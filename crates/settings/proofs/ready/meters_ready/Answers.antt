@@ -1,6 +1,6 @@
 -- `meters_ready` meets its contract.
 use Rattle.std.proofs.Common.{arith}
-use Rattle.ledger.specs.Ready.{ready}
+use Rattle.ledger.proofs.Ready.{ready}
 use Rattle.settings.proofs.ready.meters_ready.Goals as goal
 
 pub meter_count-requires : goal.meter_count-requires

@@ -1,6 +1,6 @@
 -- `readings_ready` meets its contract.
 use Rattle.std.proofs.Common.{arith}
-use Rattle.ledger.specs.Ready.{ready, periods_bound}
+use Rattle.ledger.proofs.Ready.{ready, periods_bound}
 use Rattle.settings.proofs.ready.readings_ready.Goals as goal
 
 pub meter_count-requires : goal.meter_count-requires

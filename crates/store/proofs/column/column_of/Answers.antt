@@ -1,6 +1,6 @@
 -- `column_of` meets its contract.
 use Rattle.std.proofs.Common.{arith}
-use Rattle.ledger.specs.Ready.{ready}
+use Rattle.ledger.proofs.Ready.{ready}
 use Rattle.store.proofs.column.column_of.Goals as goal
 
 pub category_count-requires : goal.category_count-requires

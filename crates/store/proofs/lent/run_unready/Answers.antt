@@ -1,7 +1,7 @@
 -- `store::lent::run_unready` meets its contract: the parts of registration and reception first, then the cells, then the days.
 use Rattle.std.proofs.Common.{◌≡◌, sym, ap, ◌∙◌, Bool, true, false, not, ◌&&◌, List, ℕ}
 use borrow.Author.Tests.{not-true, not-false}
-use Rattle.metering.specs.Laws.{test_failed, test_passed}
+use Rattle.metering.proofs.Laws.{test_failed, test_passed}
 use Rattle.ledger.specs.Store.{settings_ready, meters_ready, readings_ready, cells_ready, days_ready}
 use Rattle.ledger.specs.Calls.{meters_unready, run_unready}
 use Rattle.store.proofs.LentLaws.{lent}

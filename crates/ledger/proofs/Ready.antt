@@ -4,7 +4,7 @@ use Rattle.std.proofs.Math.Bool.{and-eq-true_iff}
 use Rattle.std.proofs.Common.{inl, inr, ⊎_elim, mul-le-mul_left, mul-le-mul_right, arith, leb-true}
 use Rattle.metering.specs.Range.{between, meters_in_range, categories_in_range, dates_in_range}
 use Rattle.metering.specs.Calendar.{periods_per_day}
-use Rattle.metering.specs.Laws.{duration_is}
+use Rattle.metering.proofs.Laws.{duration_is}
 use Rattle.ledger.specs.Sizes.{header_length, settings_length, cells_length}
 use Rattle.ledger.specs.Store.{duration_of, meters_of, categories_of, dates_of, periods_of, row_length, is_opened, settings_ready, cells_ready}
 
