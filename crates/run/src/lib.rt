@@ -1,4 +1,6 @@
 // The run of a date: its shapes from the readings held, and what later dates take over from them. And its preview.
+#![tactic(auto)]
+
 mod own_row;
 pub mod preview;
 mod sources;
@@ -23,6 +25,7 @@ use store::outcome::RunOutcome;
 use store::rows::{row_length, row_start};
 
 // The number of the first failed check; 0 for none.
+#[tactic(auto, unfolding(ledger::specs::Calls::run_verdict, ledger::specs::Checks::run_check))]
 fn run_number(
     settings: &[u8],
     meters: &[u64],

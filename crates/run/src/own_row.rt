@@ -10,6 +10,7 @@ use run_date::write::write_row;
 use store::rows::{row_length, row_start};
 
 // The stretch is lent on to the row's writer.
+#[tactic(auto, unfolding(ledger::specs::Calls::moved_by_row))]
 pub fn write_date(
     settings: &[u8],
     sums: &[u64],

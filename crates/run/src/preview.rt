@@ -20,6 +20,7 @@ use store::outcome::RunOutcome;
 use store::rows::{row_length, row_start};
 
 // The number of the first failed check; 0 for none.
+#[tactic(auto, unfolding(ledger::specs::Calls::preview_verdict, ledger::specs::Checks::preview_check, ledger::specs::Calls::draft_unready, ledger::specs::Checks::run_check))]
 fn preview_number(
     settings: &[u8],
     meters: &[u64],
