@@ -1,3 +1,5 @@
 // The answers as text.
+#![tactic(auto)]
+
 pub mod append;
 pub mod lines;
