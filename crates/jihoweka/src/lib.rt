@@ -1,5 +1,7 @@
 // The library for C: every call as an exported function on numbers and slices. `include/jihoweka.h` declares them.
 // The number is returned; the other fields of the answer go to the front of the list `fields`, which is looked at before all else.
+#![tactic(auto)]
+
 ghost use Rattle.std.specs.Prelude.{◌≡◌, not, [], eqb, length};
 ghost use Rattle.ledger.specs.Ledger.{answer, accepted, moved, totals_are, cell_is, net_is, band_is, filled_are, coverage_is, left};
 ghost use Rattle.ledger.specs.Fill.{of_category, of_opted_out};

@@ -1,5 +1,5 @@
 -- What is promised of windows: which periods OFF and PEAK are of, and METH005's two windows among them.
-use Rattle.std.proofs.Common.{◌≡◌, ℕ, suc, ◌+◌, ◌-◌, ◌*◌, ◌/◌, ◌%◌, ◌<◌, ◌≤◌, Bool, true, false, cond, ◌&&◌, eqb, ltb, leb, ◌⊎◌, ◌↔◌, [], ◌++◌, sym, refl, ap, ◌∙◌, ⊎_elim, add-suc, le-div_iff_mul-le, zero-add, arith, ltb-true, lt-ltb, eqb-true, le-leb, leb-true}
+use Rattle.std.proofs.Common.{◌≡◌, ℕ, suc, ◌+◌, ◌-◌, ◌*◌, ◌/◌, ◌%◌, ◌<◌, ◌≤◌, Bool, true, false, cond, ◌&&◌, eqb, ltb, leb, ◌↔◌, [], ◌++◌, sym, refl, ap, ◌∙◌, ⊎_elim, add-suc, le-div_iff_mul-le, zero-add, arith, ltb-true, lt-ltb, eqb-true, le-leb, leb-true}
 use native.Mathlib.Nat.{mul-mod_left}
 use borrow.Table.Steps.{cases}
 use borrow.Author.Tests.{eqb-false}

@@ -1,5 +1,5 @@
 -- Windows: what good ones come to, their bytes in the header, and sums over a stretch of periods.
-use Rattle.std.proofs.Common.{◌≡◌, ℕ, zero, suc, ◌+◌, ◌-◌, ◌*◌, ◌/◌, ◌<◌, ◌≤◌, Bool, true, false, cond, ◌&&◌, ltb, leb, List, ◌++◌, length, get_or, refl, ◌∙◌, arith, length-append, get_or-append-add, ltb-false, ltb-true, le-ltb, lt-ltb, le-leb, leb-false, leb-true}
+use Rattle.std.proofs.Common.{◌≡◌, ℕ, zero, suc, ◌+◌, ◌*◌, ◌/◌, ◌<◌, ◌≤◌, Bool, true, false, cond, ◌&&◌, ltb, leb, List, ◌++◌, length, get_or, refl, ◌∙◌, arith, length-append, get_or-append-add, ltb-false, ltb-true, le-ltb, lt-ltb, le-leb, leb-false, leb-true}
 use mathlib.Core.Bool.{and-eq-true_iff}
 use lib.ListN.{get_or-append, get_or-eq_default}
 use borrow.Table.Steps.{cases}

@@ -1,22 +1,16 @@
 -- The scope paper's marked list as one computed check; its worked example, one of nets, one of bands, one of fills, one of coverage, one of senders, one of remainders, one of previews and one of windows as computed runs of the ledger; and a computed check of openings with windows.
-use Rattle.std.specs.Prelude.{◌≡◌, ℕ, zero, suc, ◌/◌, ◌%◌, Bool, true, false, not, ◌&&◌, List, [], ◌∷◌, ◌++◌, map, replicate, ℤ, pos, negsuc, ◌==◌, refl}
+use Rattle.std.specs.Prelude.{◌≡◌, ℕ, zero, suc, ◌/◌, ◌%◌, Bool, true, false, not, ◌&&◌, List, [], ◌∷◌, ◌++◌, map, replicate, ℤ, pos, negsuc, ◌==◌}
 use Rattle.std.specs.Bool.{beq}
 use Rattle.std.proofs.Math.Option.{some}
-use Rattle.metering.specs.Sum.{sum_below}
-use Rattle.metering.specs.Mpan.{mpan_valid, check_digit, weighted_sum, product, digit, weights}
-use Rattle.metering.specs.Average.{average, remainder, annual}
-use Rattle.metering.specs.Range.{between, meters_in_range, categories_in_range, dates_in_range, day_type_valid, smart_valid, advanced_valid, category_valid}
-use Rattle.metering.specs.Calendar.{duration_known, periods_per_day, period_ending, lies_within, window_valid}
-use Rattle.ledger.specs.Method.{Category, category_at, window_at, method_windows, is_smart, same_family, HeldSet, Picture, total, is_enough, fresh_of, fresh_in, Flag, A, D, E, N, Cell, blank, carried, cell_from, ran, after_date, latest, cell_of, cell_on, same_cell, moved_cell, over_run_dates, fresh_among, blanks_among, tot_on, off_on, peak_on, totals_on, origin_of, oldest_among, coverage_on}
-use Rattle.ledger.specs.Table.{tabulate, chosen_below, first_from}
-use Rattle.ledger.specs.Net.{on_side, side_of, sum_over, any_of, signed_sum, net_period, mark_of, net_tot, net_tot7, net_on}
-use Rattle.ledger.specs.Band.{in_band, band_dates, band_on}
-use Rattle.ledger.specs.Fill.{ShapeOf, of_category, of_opted_out, is_opted_out_shape, shape_category, weight_by, may_fill, comes_before, count_before, whole_part, remainder_of, left_over, filled_value, filled_values}
-use Rattle.ledger.specs.Checks.{first_failed, any_below, window_number, record_at, category_number, day_type_number, or_else, sizes_valid, opening_check, first_number, call_number, content_number, record_number_if, record_number, end_minute, quality, watt_hours_at, moment_of, start_of, starts, later, latest_from, in_force, appointed, not_after_last, fields_number, known_number, meter_number, registration_check, header_number, body_check, in_force_check, reception_check, is_reading, reading_in, run_check, read_check, totals_in_range, cell_in_range, lists_short, may_net, net_check, band_check, fill_check, preview_check, row_check}
-use Rattle.ledger.specs.Sizes.{settings_length, meters_length, readings_length, cells_length, days_length, draft_length}
-use Rattle.ledger.specs.Ledger.{Opening, Ledger, start, Call, register, receive, run, read_totals, read_cell, read_net, search_band, fill_hole, read_coverage, preview, read_row, Answer, refused, accepted, moved, totals_are, cell_is, net_is, band_is, filled_are, coverage_is, row_is, answer, left, Lengths, least_lengths, settings_short, meters_short, cells_short, days_short, any_short, meter_with, changed, held_from, ledger_registration_check, register_in, after_registration, ledger_reception_check, set_of, at, after_reception, cell_by, cell_at, is_run, ledger_run_check, picture_of, after_run, moved_between, ledger_totals_check, ledger_cell_check, totals_at, ledger_net_check, side_at, net_at, ledger_band_check, band_at, shape_at, weight_at, ledger_fill_check, fill_at, ledger_coverage_check, coverage_at, draft_short, ledger_preview_check, after_preview, ledger_row_check, row_shown, ledger_answer, ledger_after}
-use Rattle.ledger.specs.Store.{flag_number_of, cell_of_entry}
-use Rattle.ledger.specs.Engine.{Parts, opened_parts, Item, store_answers, lengths_of, draft_of}
+use Rattle.metering.specs.Mpan.{mpan_valid}
+use Rattle.metering.specs.Average.{average, annual}
+use Rattle.metering.specs.Range.{between}
+use Rattle.metering.specs.Calendar.{periods_per_day, period_ending, lies_within}
+use Rattle.ledger.specs.Method.{Category, window_at, method_windows, HeldSet, Picture, fresh_in, Flag, A, D, E, N, Cell, blank, ran, cell_on, same_cell}
+use Rattle.ledger.specs.Fill.{ShapeOf, of_category, of_opted_out}
+use Rattle.ledger.specs.Checks.{opening_check, record_number}
+use Rattle.ledger.specs.Ledger.{Opening, Ledger, Call, register, receive, run, read_totals, read_cell, read_net, search_band, fill_hole, read_coverage, preview, read_row, Answer, refused, accepted, moved, totals_are, cell_is, net_is, band_is, filled_are, coverage_is, row_is, Lengths, least_lengths, ledger_answer, ledger_after}
+use Rattle.ledger.specs.Engine.{Parts, opened_parts, Item, store_answers, lengths_of}
 use Rattle.ledger.specs.Demands.{Accepts}
 
 -- the test holds of the n periods from 1 on

@@ -1,13 +1,13 @@
 -- The periods between two minutes: how many begin before the one, and how many end by the other.
 use Prim.Native.Nat.{ℕ, suc, ◌+◌, ◌-◌, ◌*◌, ◌/◌, ◌%◌, ◌≤◌, ◌<◌}
-use mathlib.Core.Path.{◌≡◌, refl, sym, ap, ◌∙◌}
+use mathlib.Core.Path.{◌≡◌, sym, ap, ◌∙◌}
 use mathlib.Core.Bool.{◌&&◌}
 use mathlib.Core.Logic.{◌⊎◌, ◌≢◌, ⊎_elim}
 use native.Mathlib.Omega.{arith}
 use native.Mathlib.Nat.{le_trans, eq-or-lt_of_le, mul-mod_left, mul-le-mul_right, le_of_mul-le-mul_right, div-mul-le_self, div-lt_iff_lt-mul, le-div_iff_mul-le}
 use borrow.Table.Steps.{cases}
 use borrow.Author.Tests.{le-leb, lt-leb, leb-true, leb-false, le-ltb}
-use lib.Dec.{leb, ltb}
+use lib.Dec.{leb}
 use Rattle.metering.specs.Calendar.{periods_per_day, lies_within, BegunBefore, EndedBy, covers, PeriodsWithin}
 use Rattle.metering.proofs.Laws.{whole_periods}
 

@@ -1,5 +1,4 @@
 -- `entries::entry::compared_entry` meets its contract: on 0 the put of the blank cell, which has room, and any other entry as it is.
-use Rattle.ledger.specs.Method.{blank}
 use Rattle.ledger.proofs.Entries.{blank_fits}
 use Rattle.entries.proofs.entry.compared_entry.Goals as goal
 

@@ -1,5 +1,5 @@
 -- `settings::members::side_members` meets its contract. The invariant: those found so far are the ones chosen below the category reached.
-use Rattle.std.proofs.Common.{◌-◌, arith}
+use Rattle.std.proofs.Common.{arith}
 use Rattle.ledger.proofs.Ready.{ready}
 use Rattle.settings.proofs.MemberLaws.{found_none, found_next, found_few}
 use Rattle.settings.proofs.members.side_members.Goals as goal

@@ -1,5 +1,5 @@
 -- `writing::copy` meets its contract: the source's first i bytes are written.
-use Rattle.std.proofs.Common.{◌-◌, arith, length-set}
+use Rattle.std.proofs.Common.{arith, length-set}
 use Rattle.ledger.proofs.Lists.{sets_more}
 use Rattle.settings.proofs.writing.copy.Goals as goal
 

@@ -1,5 +1,5 @@
 -- `writing::write_windows` meets its contract: the first k minutes are written.
-use Rattle.std.proofs.Common.{◌-◌, ◌∙◌, arith}
+use Rattle.std.proofs.Common.{◌∙◌, arith}
 use Rattle.settings.proofs.WritingLaws.{minutes_more}
 use Rattle.settings.proofs.writing.write_windows.Goals as goal
 

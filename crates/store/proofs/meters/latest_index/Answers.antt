@@ -1,5 +1,5 @@
 -- `latest_index` meets its contract. The invariant: the best so far, taken on over the registrations still to come, is the latest.
-use Rattle.std.proofs.Common.{◌-◌, sym, ◌∙◌, ⊎_elim, arith}
+use Rattle.std.proofs.Common.{sym, ◌∙◌, arith}
 use Rattle.ledger.specs.Checks.{latest_from}
 use Rattle.store.specs.Meters.{key_by}
 use Rattle.store.proofs.Laws.{used_all, used_stop, used_more, indexed_at, turn_taken, turn_left}

@@ -1,5 +1,5 @@
 -- `slot_of` meets its contract. The invariant: the search on what is left, from here, finds the slot that the whole search finds.
-use Rattle.std.proofs.Common.{◌-◌, ◌≡◌, sym, ◌∙◌, arith}
+use Rattle.std.proofs.Common.{◌≡◌, sym, ◌∙◌, arith}
 use Rattle.store.proofs.Laws.{slot_same, slot_free, slot_next, slot_none}
 use Rattle.store.proofs.meters.slot_of.Goals as goal
 

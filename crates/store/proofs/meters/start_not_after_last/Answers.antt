@@ -1,5 +1,5 @@
 -- `start_not_after_last` meets its contract. The invariant: the answer so far, taken on over the registrations still to come, is that for all.
-use Rattle.std.proofs.Common.{◌-◌, sym, ◌∙◌, false, arith}
+use Rattle.std.proofs.Common.{sym, ◌∙◌, arith}
 use Rattle.ledger.specs.Checks.{not_after_last}
 use Rattle.store.proofs.Laws.{used_all, used_stop, used_more}
 use Rattle.store.proofs.meters.start_not_after_last.Goals as goal

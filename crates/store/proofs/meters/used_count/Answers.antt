@@ -1,5 +1,5 @@
 -- `used_count` meets its contract. The invariant: the registrations passed and those still to come are all that are used.
-use Rattle.std.proofs.Common.{◌-◌, sym, ◌∙◌, arith}
+use Rattle.std.proofs.Common.{sym, ◌∙◌, arith}
 use Rattle.store.proofs.Laws.{used_all, used_stop, used_more}
 use Rattle.store.proofs.meters.used_count.Goals as goal
 
