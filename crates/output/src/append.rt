@@ -8,7 +8,9 @@ pub fn append(out: &mut [u8], at: usize, text: &[u8]) -> usize
     requires { at + length text.now ≤ length out.old }
     ensures { Appended out.old at out.new result text.now }
 {
-    at + bytes::copy(text, &mut out[at..])
+    let end = at + text.len();
+    out[at..end].copy_from_slice(text);
+    end
 }
 
 pub fn append_byte(out: &mut [u8], at: usize, byte: u8) -> usize
@@ -66,6 +68,7 @@ fn append_thousandths(out: &mut [u8], at: usize, number: u64) -> usize
 }
 
 // A blank and the energy in kWh with three decimals, from Wh: it reads back as the Wh.
+#[tactic(auto, unfolding(crate::specs::Text::energy_text))]
 pub fn append_energy(out: &mut [u8], at: usize, energy: u64) -> usize
     requires { at + 25 ≤ length out.old }
     ensures appended { Appended out.old at out.new result (energy_word energy) }

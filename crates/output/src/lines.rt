@@ -37,6 +37,7 @@ fn append_refused(out: &mut [u8], at: usize, code: u8, number: u64, place: u64) 
     append_byte(out, next, b'\n')
 }
 
+#[tactic(auto, unfolding(crate::specs::Lines::answer_line))]
 pub fn append_outcome(out: &mut [u8], at: usize, code: u8, outcome: Outcome) -> usize
     requires { at + 300 ≤ length out.old }
     ensures appended { Appended out.old at out.new result (answer_line code (answer_of outcome)) }
@@ -51,6 +52,7 @@ pub fn append_outcome(out: &mut [u8], at: usize, code: u8, outcome: Outcome) -> 
     }
 }
 
+#[tactic(auto, unfolding(crate::specs::Lines::answer_line))]
 pub fn append_run(out: &mut [u8], at: usize, outcome: RunOutcome) -> usize
     requires { at + 300 ≤ length out.old }
     ensures appended { Appended out.old at out.new result (answer_line 22 (run_answer outcome)) }
@@ -91,6 +93,7 @@ fn append_figures(out: &mut [u8], at: usize, totals: Totals) -> usize
     append_number(out, next, totals.blanks)
 }
 
+#[tactic(auto, unfolding(crate::specs::Lines::answer_line))]
 pub fn append_totals(out: &mut [u8], at: usize, outcome: TotalsOutcome) -> usize
     requires { at + 300 ≤ length out.old }
     ensures appended { Appended out.old at out.new result (answer_line 23 (totals_answer outcome)) }
@@ -131,6 +134,7 @@ fn append_fields(out: &mut [u8], at: usize, cell: Cell) -> usize
     append_signed(out, next, cell.remainder)
 }
 
+#[tactic(auto, unfolding(crate::specs::Lines::answer_line))]
 pub fn append_cell(out: &mut [u8], at: usize, outcome: CellOutcome) -> usize
     requires { at + 300 ≤ length out.old }
     ensures appended { Appended out.old at out.new result (answer_line 24 (cell_answer outcome)) }

@@ -13,7 +13,7 @@ loop-i-init c = (omega arith, sym (filling_zero _ _))
 pub loop-i-preserved : goal.loop-i-preserved
 loop-i-preserved c =
     let i = c.loop-i.i in
-    let back : to_z w64 (of_z w64 (get_or c.args.numbers.fields i (pos 0))) ≡ get_or c.args.numbers.fields i (pos 0) = to_z-of_z (sfits_of c.field-1.given) in
+    let back : to_z w64 (of_z w64 (get_or c.args.numbers.fields i (pos 0))) ≡ get_or c.args.numbers.fields i (pos 0) = to_z-of_z {w = w64} (sfits_of c.field-1.given) in
     (omega arith, fill _ _ _ i _ c.loop-i.invariant.1 (omega (arith, c.requires.0, c.requires.2)) back)
 
 pub returns-clause-list_after : goal.returns-clause-list_after
