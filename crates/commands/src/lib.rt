@@ -1,4 +1,6 @@
 // What each command asks of the engine, prints and leaves.
+#![tactic(auto)]
+
 mod calls;
 mod capacity;
 
