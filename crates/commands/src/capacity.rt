@@ -10,6 +10,7 @@ pub struct Capacity {
 }
 
 // Durations other than 15 and 30 are refused before the parts count.
+#[tactic(auto, unfolding(crate::specs::Commands::parts_suffice))]
 pub fn parts_suffice(capacity: Capacity, duration: u64, meters: u64, dates: u64) -> bool
     ensures { result ≡ parts_suffice capacity duration meters dates }
 {

@@ -1,0 +1,11 @@
+-- `jihoweka_fill` meets its contract: a list that is too short, or the call and its answer as numbers.
+use Rattle.ledger.specs.Fill.{of_category}
+use Rattle.ledger.specs.Store.{periods_of}
+use Rattle.fill.specs.Asked.{fill_call}
+use Rattle.jihoweka.proofs.Fit.{fill_fits, no_values}
+use Rattle.jihoweka.proofs.jihoweka_fill.Goals as goal
+
+pub of_outcome-requires : goal.of_outcome-requires
+of_outcome-requires c =
+    let a = c.args in
+    no_values c.fill-outcome.result (periods_of a.settings.now) c.fill-outcome.new.filled c.fill-outcome.ensures.answers (fill_fits a.settings.now a.cells.now (fill_call (of_category a.category) a.date a.advance a.missing.now a.filled.now))

@@ -1,0 +1,8 @@
+-- `jihoweka_read_totals` meets its contract: a list that is too short, or the call and its answer as numbers.
+use Rattle.jihoweka.proofs.Fit.{totals_fits}
+use Rattle.jihoweka.proofs.jihoweka_read_totals.Goals as goal
+
+pub of_totals-requires : goal.of_totals-requires
+of_totals-requires c =
+    let a = c.args in
+    rw c.read_totals-outcome.ensures (totals_fits a.settings.now a.days.now a.date a.category)

@@ -1,0 +1,8 @@
+-- `jihoweka_run` meets its contract: a list that is too short, or the call and its answer as numbers.
+use Rattle.jihoweka.proofs.Fit.{run_fits}
+use Rattle.jihoweka.proofs.jihoweka_run.Goals as goal
+
+pub of_run-requires : goal.of_run-requires
+of_run-requires c =
+    let a = c.args in
+    rw c.run-outcome.ensures.result_value (run_fits a.settings.now a.meters.now a.readings.now a.cells.now a.days.now a.date)
