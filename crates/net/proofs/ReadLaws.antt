@@ -12,7 +12,6 @@ use Rattle.ledger.specs.Net.{active_import, active_export, side_of, Net}
 use Rattle.ledger.specs.Checks.{Verdict, may_net, net_check}
 use Rattle.ledger.specs.Ledger.{Answer, answer, left, refused, net_is}
 use Rattle.ledger.specs.Sizes.{days_length}
-use Rattle.ledger.proofs.Ready.{Ready, ready}
 use Rattle.ledger.specs.Store.{categories_of, dates_of, periods_of, row_length, category_of, settings_ready, is_run_at}
 use Rattle.ledger.specs.Calls.{side_for, days_unready, net_verdict, net_of_sides, net_for, overwritten}
 use Rattle.ledger.specs.Engine.{Every}

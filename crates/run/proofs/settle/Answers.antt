@@ -20,11 +20,10 @@ pub row_start-requires : goal.row_start-requires
 row_start-requires c = rw c.row_length-length.ensures (omega (arith, row (goal.at.row_start-requires c).After-write_date-moved))
 
 pub carry_row-requires : goal.carry_row-requires
-carry_row-requires c =
-    (
-      within _ _ _ _ (at (goal.at.carry_row-requires c).After-row_start) c.row_length-length.ensures (rw c.write_date-moved.auto.cells (row (goal.at.carry_row-requires c).After-write_date-moved)),
-      wide c.args.inherited.now c.args.inherited.now c.row_length-length.ensures refl c.requires.settings_in_bounds.2,
-    )
+carry_row-requires c = (
+  within _ _ _ _ (at (goal.at.carry_row-requires c).After-row_start) c.row_length-length.ensures (rw c.write_date-moved.auto.cells (row (goal.at.carry_row-requires c).After-write_date-moved)),
+  wide c.args.inherited.now c.args.inherited.now c.row_length-length.ensures refl c.requires.settings_in_bounds.2,
+)
 
 pub overflow_add-date : goal.overflow_add-date
 overflow_add-date c =
@@ -33,22 +32,20 @@ overflow_add-date c =
 
 pub write_later-requires-clause-settings_value : goal.write_later-requires-clause-settings_value
 write_later-requires-clause-settings_value c =
-    let S = c.args.settings.now in
-    (
+    let S = c.args.settings.now in (
       c.requires.settings_value.0,
       still_ready S c.args.cells.now c.write_date-moved.new.cells c.write_date-moved.auto.cells c.requires.settings_value.1,
       days_still_ready S c.args.days.now c.write_date-moved.new.days c.write_date-moved.auto.days c.requires.settings_value.2,
-      )
+    )
 
 pub write_later-requires-clause-first_bound : goal.write_later-requires-clause-first_bound
 write_later-requires-clause-first_bound c =
     let S = c.args.settings.now in
-    let most : c.write_date-moved.result ≤ row_length S = moved_by_le _ _ _ _ _ c.write_date-moved.ensures.value in
-    (
+    let most : c.write_date-moved.result ≤ row_length S = moved_by_le _ _ _ _ _ c.write_date-moved.ensures.value in (
       omega (arith, c.requires.settings_value.3),
       omega (arith, row_bounds S (ready S c.requires.settings_value.0)),
       rw c.carry_row.auto.inherited c.requires.settings_in_bounds.2,
-      )
+    )
 
 pub returns : goal.returns
 returns c =

@@ -1,5 +1,5 @@
 -- `divide` meets its contract. The invariant: parts and remainders stand for the periods passed, and the parts are taken off the advance.
-use Rattle.std.proofs.Common.{◌+◌, ◌-◌, ◌≤◌, ◌≡◌, sym, arith}
+use Rattle.std.proofs.Common.{◌+◌, ◌≤◌, ◌≡◌, sym, arith}
 use Rattle.ledger.proofs.Lists.{filling_zero, fill}
 use Rattle.fill.specs.Sharing.{weight_in}
 use Rattle.fill.proofs.SharingLaws.{weighed, none_taken, next_part, next_remainder, part_within, next_taken}

@@ -2,7 +2,6 @@ use Rattle.std.proofs.Common.{◌+◌, ◌-◌, ◌≤◌, ◌≡◌}
 use Rattle.metering.specs.Sum.{sum_below}
 use Rattle.ledger.specs.Fill.{whole_part, remainder_of}
 use Rattle.ledger.specs.Table.{filling}
-use Rattle.ledger.proofs.Lists.{fill}
 use Rattle.fill.specs.Sharing.{weight_in}
 use Rattle.fill.proofs.division.divide.Given as goal
 

@@ -1,5 +1,5 @@
 -- `missing_sum` meets its contract. The invariant: what is summed so far is over the periods passed.
-use Rattle.std.proofs.Common.{◌-◌, arith}
+use Rattle.std.proofs.Common.{arith}
 use Rattle.entries.proofs.SumLaws.{none_yet, one_more}
 use Rattle.fill.proofs.SharingLaws.{weighed}
 use Rattle.fill.proofs.missing.missing_sum.Goals as goal

@@ -1,5 +1,5 @@
 -- `hand_out` meets its contract. The invariant: the periods passed have what they get, and what is to spare is less by those of them that are equal to the threshold.
-use Rattle.std.proofs.Common.{◌-◌, sym, arith, get_or}
+use Rattle.std.proofs.Common.{sym, arith, get_or}
 use Rattle.ledger.proofs.Lists.{filling_zero, fill}
 use Rattle.fill.proofs.SharingLaws.{none_spared, next_spared, next_handed}
 use Rattle.fill.proofs.shares.hand_out.Goals as goal

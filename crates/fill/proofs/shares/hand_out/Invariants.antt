@@ -1,7 +1,6 @@
 use Rattle.std.proofs.Common.{◌-◌, ◌≤◌, ◌≡◌, get_or}
 use Rattle.ledger.specs.Table.{filling}
 use Rattle.ledger.specs.Threshold.{equal_to}
-use Rattle.ledger.proofs.Lists.{fill, filled}
 use Rattle.fill.specs.Sharing.{handed_out}
 use Rattle.fill.proofs.shares.hand_out.Given as goal
 

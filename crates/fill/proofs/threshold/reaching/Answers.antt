@@ -1,5 +1,5 @@
 -- `reaching` meets its contract. The invariant: what is counted so far is among the remainders passed.
-use Rattle.std.proofs.Common.{◌-◌, arith}
+use Rattle.std.proofs.Common.{arith}
 use Rattle.entries.proofs.SumLaws.{none_yet, one_more}
 use Rattle.fill.proofs.threshold.reaching.Goals as goal
 

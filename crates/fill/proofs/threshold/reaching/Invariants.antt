@@ -1,5 +1,4 @@
 use Rattle.std.proofs.Common.{◌-◌, ◌≤◌, cond, leb, get_or}
-use Rattle.ledger.specs.Threshold.{reaching}
 use Rattle.entries.specs.Sums.{Summed}
 use Rattle.fill.proofs.threshold.reaching.Given as goal
 

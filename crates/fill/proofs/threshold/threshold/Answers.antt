@@ -1,5 +1,5 @@
 -- `threshold` meets its contract. The invariant is `Between`.
-use Rattle.std.proofs.Common.{◌-◌, refl}
+use Rattle.std.proofs.Common.{refl}
 use Rattle.fill.proofs.SharingLaws.{all_between, exactly_left}
 use Rattle.fill.proofs.threshold.threshold.Goals as goal
 

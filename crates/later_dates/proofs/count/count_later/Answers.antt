@@ -1,5 +1,5 @@
 -- `later_dates::count::count_later` meets its contract: what is left of the walk gives what the whole gives.
-use Rattle.std.proofs.Common.{◌+◌, ◌-◌, ◌<◌, ap, arith}
+use Rattle.std.proofs.Common.{◌+◌, ◌<◌, ap, arith}
 use Rattle.ledger.proofs.Ready.{ready, header_there}
 use Rattle.ledger.specs.Store.{dates_of}
 use Rattle.ledger.specs.Calls.{Ran}

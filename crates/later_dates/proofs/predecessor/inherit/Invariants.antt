@@ -1,4 +1,4 @@
-use Rattle.std.proofs.Common.{◌-◌, ◌≤◌, ◌≡◌, length}
+use Rattle.std.proofs.Common.{◌≤◌, ◌≡◌}
 use Rattle.ledger.specs.Store.{row_length, day_type_of}
 use Rattle.ledger.specs.Calls.{last_run}
 use Rattle.later_dates.proofs.predecessor.inherit.Given as goal

@@ -1,5 +1,5 @@
 -- `later_dates::write::write_later` meets its contract: what is left of the walk gives what the whole gives.
-use Rattle.std.proofs.Common.{◌+◌, ◌-◌, ◌<◌, arith}
+use Rattle.std.proofs.Common.{◌+◌, ◌<◌, arith}
 use Rattle.ledger.proofs.Ready.{ready, header_there}
 use Rattle.ledger.specs.Store.{dates_of}
 use Rattle.store.proofs.RowLaws.{still_ready, days_still_ready}
@@ -18,8 +18,7 @@ date_count-dates-requires c = header_there _ c.requires.settings_value.0
 
 pub write_step-step-requires : goal.write_step-step-requires
 write_step-step-requires c =
-    let l = c.loop-d in
-    (
+    let l = c.loop-d in (
       c.requires.settings_value.0,
       still_ready c.args.settings.now c.args.cells.now l.cells l.invariant.1 c.requires.settings_value.1,
       days_still_ready c.args.settings.now c.args.days.now l.days l.invariant.2 c.requires.settings_value.2,

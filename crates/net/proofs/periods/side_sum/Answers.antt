@@ -1,5 +1,5 @@
 -- `side_sum` meets its contract. The invariant: both sums are over the members passed.
-use Rattle.std.proofs.Common.{suc, ◌-◌, ◌≡◌, ap, ◌∙◌, arith, get_or}
+use Rattle.std.proofs.Common.{suc, ◌≡◌, ap, ◌∙◌, arith, get_or}
 use Rattle.ledger.specs.Method.{is_blank}
 use Rattle.entries.specs.Cell.{cell_meant}
 use Rattle.store.specs.Column.{beside, cell_in}

@@ -1,5 +1,5 @@
 -- `write_periods` meets its contract. The invariant: both lists are filled, and both sides summed, up to the period reached.
-use Rattle.std.proofs.Common.{◌-◌, ◌+◌, sym, ap₂, ◌∙◌, cond, arith, eqb, pos, ◌-ℤ◌}
+use Rattle.std.proofs.Common.{◌+◌, sym, ap₂, ◌∙◌, cond, arith, eqb, pos, ◌-ℤ◌}
 use Rattle.ledger.proofs.Lists.{filling_zero, fill}
 use Rattle.entries.proofs.SumLaws.{none_yet, one_more}
 use Rattle.net.proofs.SideLaws.{as_figure}

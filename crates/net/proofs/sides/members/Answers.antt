@@ -1,5 +1,5 @@
 -- `net::sides::members` meets its contract. The invariant: those found so far are the ones chosen below the category reached.
-use Rattle.std.proofs.Common.{◌-◌, arith}
+use Rattle.std.proofs.Common.{arith}
 use Rattle.ledger.proofs.Ready.{ready}
 use Rattle.net.proofs.SideLaws.{found_none, found_next, found_few}
 use Rattle.net.proofs.sides.members.Goals as goal

@@ -1,5 +1,5 @@
 -- `week_sum` meets its contract. The invariant: what is summed so far is over the members passed.
-use Rattle.std.proofs.Common.{◌-◌, ap, ◌∙◌, arith, length, get_or}
+use Rattle.std.proofs.Common.{ap, ◌∙◌, arith, length, get_or}
 use Rattle.ledger.specs.Store.{energy_of}
 use Rattle.ledger.specs.Calls.{dates_sum}
 use Rattle.store.specs.DayRows.{RowsFit}

@@ -37,13 +37,12 @@ slice_bounds-write_row-end c = omega (arith, fit (goal.at.slice_bounds-write_row
 pub write_row-moved-requires-clause-settings_in_bounds : goal.write_row-moved-requires-clause-settings_in_bounds
 write_row-moved-requires-clause-settings_in_bounds c =
     let S = c.args.settings.now in
-    let known = ready S c.requires.settings_value.0 in
-    (
-        c.requires.settings_in_bounds.2,
-        omega (arith, c.requires.settings_value.3, known.dates.1),
-        part_is (row_length S) c.args.date _ _ c.args.cells.now (starts (goal.at.write_row-moved-requires-clause-settings_in_bounds c).After-row_start-at) (width (goal.at.write_row-moved-requires-clause-settings_in_bounds c).After-row_start-at)
-            (row_fits S c.args.cells.now c.args.date c.requires.settings_value.1 c.requires.settings_value.3),
-      )
+    let known = ready S c.requires.settings_value.0 in (
+      c.requires.settings_in_bounds.2,
+      omega (arith, c.requires.settings_value.3, known.dates.1),
+      part_is (row_length S) c.args.date _ _ c.args.cells.now (starts (goal.at.write_row-moved-requires-clause-settings_in_bounds c).After-row_start-at) (width (goal.at.write_row-moved-requires-clause-settings_in_bounds c).After-row_start-at)
+          (row_fits S c.args.cells.now c.args.date c.requires.settings_value.1 c.requires.settings_value.3),
+    )
 
 pub returns-clause-days_after : goal.returns-clause-days_after
 unfolding moved_by_row
@@ -59,5 +58,5 @@ returns-clause-value c =
     let S = a.settings.now in
     let n : ℕ = row_length S in
     c.write_row-moved.ensures.value
-        ∙ differing_ext n _ (λ k. compared_entry (row_at n a.cells.now a.date k)) _ _
-        (λ k l. ap compared_entry (part_row n a.date _ _ a.cells.now (starts (goal.at.returns-clause-value c).After-row_start-at) (width (goal.at.returns-clause-value c).After-row_start-at) k l)) (λ k l. refl)
+    ∙ differing_ext n _ (λ k. compared_entry (row_at n a.cells.now a.date k)) _ _
+    (λ k l. ap compared_entry (part_row n a.date _ _ a.cells.now (starts (goal.at.returns-clause-value c).After-row_start-at) (width (goal.at.returns-clause-value c).After-row_start-at) k l)) (λ k l. refl)

@@ -1,5 +1,5 @@
 -- `run::preview::draw` meets its contract: the row is drawn over a copy of the published one, and the walk that counts starts from it.
-use Rattle.std.proofs.Common.{ℕ, ◌+◌, ◌-◌, ◌*◌, ◌≤◌, ◌≡◌, refl, ap, ◌∙◌, [], arith, length}
+use Rattle.std.proofs.Common.{ℕ, ◌+◌, ◌*◌, ◌≤◌, ◌≡◌, refl, ap, ◌∙◌, [], arith, length}
 use Rattle.ledger.proofs.Ready.{ready, row_bounds}
 use Rattle.ledger.specs.Store.{row_length}
 use Rattle.ledger.specs.Calls.{as_published, count_only, Ran, moved_by_row}
@@ -56,13 +56,12 @@ pub count_later-requires-clause-first_bound : goal.count_later-requires-clause-f
 count_later-requires-clause-first_bound c =
     let S = c.args.settings.now in
     let known = ready S c.requires.settings_value.0 in
-    let most : c.write_row-moved.result ≤ row_length S = moved_by_le _ _ _ _ _ (drawn-count (goal.at.count_later-requires-clause-first_bound c).After-write_row-moved) in
-    (
+    let most : c.write_row-moved.result ≤ row_length S = moved_by_le _ _ _ _ _ (drawn-count (goal.at.count_later-requires-clause-first_bound c).After-write_row-moved) in (
       omega (arith, c.requires.settings_value.2),
       omega (arith, row_bounds S known, c.requires.settings_value.2, known.dates.1),
       rw c.carry_row.auto.inherited c.requires.settings_in_bounds.2,
       omega (arith, c.requires.settings_in_bounds.0, drawn-long (goal.at.count_later-requires-clause-first_bound c).After-write_row-moved),
-      )
+    )
 
 pub returns-clause-value : goal.returns-clause-value
 returns-clause-value c =
@@ -70,7 +69,7 @@ returns-clause-value c =
     let S = a.settings.now in
     let new = row_from S a.sums.now a.counts.now a.inherited.now a.date in
     c.count_later.ensures
-        ∙ ap (λ (x : Ran). x.moved)
-        (settles count_only S new (as_published a.cells.now []) a.date _ c.carry_row.new.inherited _ c.write_row-moved.result c.day_type-day.ensures refl (drawn-count (goal.at.returns-clause-value c).After-write_row-moved)
-        (carried_on (row_length S) 0 _ c.write_row-moved.new.row a.inherited.now c.carry_row.new.inherited new c.row_length-length.ensures c.carry_row.ensures
-        (drawn_at (row_length S) c.write_row-moved.new.row new c.write_row-moved.ensures.row_after)))
+    ∙ ap (λ (x : Ran). x.moved)
+    (settles count_only S new (as_published a.cells.now []) a.date _ c.carry_row.new.inherited _ c.write_row-moved.result c.day_type-day.ensures refl (drawn-count (goal.at.returns-clause-value c).After-write_row-moved)
+    (carried_on (row_length S) 0 _ c.write_row-moved.new.row a.inherited.now c.carry_row.new.inherited new c.row_length-length.ensures c.carry_row.ensures
+    (drawn_at (row_length S) c.write_row-moved.new.row new c.write_row-moved.ensures.row_after)))

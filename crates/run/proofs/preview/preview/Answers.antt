@@ -59,4 +59,4 @@ returns-clause-draft_after c =
     let is : c.preview_number-number.result ≡ v.number = c.preview_number-number.ensures in
     let ok = (accepted (goal.at.returns-clause-draft_after c).Else-number-ne0).0 in
     drawn_front a.settings.now a.meters.now a.readings.now a.cells.now a.days.now a.date ok _ a.draft.now _ c.preview_accepted.ensures.row_after c.row_length-length.ensures
-        ∙ after_is v _ is _ _ c.if-number-ne0.false
+    ∙ after_is v _ is _ _ c.if-number-ne0.false

@@ -7,11 +7,10 @@ use Rattle.run.proofs.sources.gather.Goals as goal
 
 pub tally_date-requires-clause-tallied : goal.tally_date-requires-clause-tallied
 tally_date-requires-clause-tallied c =
-    let a = c.args in
-    (
-        tallied_zero a.settings.now a.meters.now a.readings.now a.date watt_hours a.sums.now (λ k l. (c.requires.by_index k l).0),
-        tallied_zero a.settings.now a.meters.now a.readings.now a.date present a.counts.now (λ k l. (c.requires.by_index k l).1),
-      )
+    let a = c.args in (
+      tallied_zero a.settings.now a.meters.now a.readings.now a.date watt_hours a.sums.now (λ k l. (c.requires.by_index k l).0),
+      tallied_zero a.settings.now a.meters.now a.readings.now a.date present a.counts.now (λ k l. (c.requires.by_index k l).1),
+    )
 
 pub returns-clause-bounded : goal.returns-clause-bounded
 returns-clause-bounded c =

@@ -1,6 +1,6 @@
 -- `run_date::write::add_member` meets its contract: a category of the family adds its two stretches, another nothing.
 use Rattle.std.proofs.Common.{ℕ, ◌*◌, ◌≡◌, sym, ap, ◌∙◌, arith}
-use borrow.Author.Tests.{not-true, not-false}
+use borrow.Author.Tests.{not-true}
 use Rattle.ledger.proofs.Ready.{ready}
 use Rattle.ledger.specs.Store.{periods_of}
 use Rattle.run_date.proofs.Laws.{start_asks, counts_small, sums_small, member_asks, pooled_skip, pooled_add}

@@ -1,5 +1,4 @@
 -- `run_date::write::pool_family` meets its contract: after each turn the totals have the members passed.
-use Rattle.std.proofs.Common.{◌-◌}
 use Rattle.ledger.proofs.Ready.{header_there}
 use Rattle.run_date.proofs.write.pool_family.Goals as goal
 

@@ -35,15 +35,14 @@ shape_row-requires-clause-date_bound c =
     let known = ready S c.requires.settings_value.0 in
     let fit = stretch S a.category c.requires.settings_in_bounds.1 in
     let len : length a.row.now ≡ periods_of S = c.requires.settings_in_bounds.3 in
-    let most = (periods_bound S known).1 in
-    (
+    let most = (periods_bound S known).1 in (
       c.requires.settings_in_bounds.2,
       omega (arith, at-is (goal.at.shape_row-requires-clause-date_bound c).After-category_start-at, c.requires.settings_value.1),
       omega (arith, at-is (goal.at.shape_row-requires-clause-date_bound c).After-category_start-at, c.requires.settings_value.2),
       omega (arith, at-is (goal.at.shape_row-requires-clause-date_bound c).After-category_start-at, c.requires.settings_in_bounds.0),
       omega (arith, c.pool_family.auto.family_sums),
       omega (arith, c.pool_family.auto.family_counts),
-      )
+    )
 
 pub shape_row-requires-clause-by_index : goal.shape_row-requires-clause-by_index
 shape_row-requires-clause-by_index c =
