@@ -111,14 +111,13 @@ def full_while_writing(program):
 
 
 def closed_reader(program, ignoring_sigpipe):
-    """A reader that is gone ends the program by SIGPIPE; where that is ignored, the line appears."""
+    """A reader that is gone makes the write fail, whether or not the caller ignores SIGPIPE."""
     reader, writer = small_pipe()
     run = Run(program, file_with(STREAM), writer, ignoring_sigpipe)
     os.close(writer)
     started = os.read(reader, 100)
     os.close(reader)
-    expected = (0, b'standard output: Broken pipe\n') if ignoring_sigpipe else (-signal.SIGPIPE, b'')
-    return ANSWER.startswith(started) and run.end() == expected
+    return ANSWER.startswith(started) and run.end() == (0, b'standard output: Broken pipe\n')
 
 
 def directory_as_input(program):

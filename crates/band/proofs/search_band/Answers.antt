@@ -1,6 +1,6 @@
 -- `search_band` meets its contract: the first failed check's number, nothing where there is no such band, or what the walk found.
 use Rattle.std.proofs.Common.{sym, ◌∙◌}
-use Rattle.metering.proofs.Laws.{test_failed, test_passed}
+use Rattle.metering.proofs.Laws.{test_failed}
 use Rattle.band.proofs.AnswerLaws.{may_search, refuses, ends_exchanged, no_day_type, finds}
 use Rattle.band.proofs.search_band.Goals as goal
 

@@ -1,6 +1,5 @@
 -- `later_rows::carry_row` meets its contract: the first k places of `inherited` have what the row's first k entries leave.
-use Rattle.std.proofs.Common.{◌-◌, refl, sym, arith, length-set}
-use Rattle.ledger.specs.Calls.{carried_entry}
+use Rattle.std.proofs.Common.{refl, sym, arith, length-set}
 use Rattle.ledger.proofs.Lists.{filling_zero, fill}
 use Rattle.later_rows.proofs.carry_row.Goals as goal
 

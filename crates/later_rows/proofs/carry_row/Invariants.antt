@@ -1,11 +1,8 @@
 use Prim.Native.Nat.{◌≤◌, ◌-◌, ◌+◌}
-use mathlib.Core.Path.{◌≡◌, refl, sym}
-use native.Mathlib.Omega.{arith}
-use borrow.Author.Rules.{rules}
-use lib.ListN.{length, get_or, length-set}
+use mathlib.Core.Path.{◌≡◌}
+use lib.ListN.{length, get_or}
 use Rattle.ledger.specs.Calls.{carried_entry}
 use Rattle.ledger.specs.Table.{filling}
-use Rattle.ledger.proofs.Lists.{filling_zero, fill, filled}
 use Rattle.later_rows.proofs.carry_row.Given as goal
 
 abbrev pub invariant-loop-k : goal.invariant-loop-k

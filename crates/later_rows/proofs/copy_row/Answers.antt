@@ -1,5 +1,5 @@
 -- `later_rows::copy_row` meets its contract: the first k entries are copied.
-use Rattle.std.proofs.Common.{◌-◌, refl, sym, ap, ◌∙◌, List, arith, length, length-set}
+use Rattle.std.proofs.Common.{refl, sym, ap, ◌∙◌, List, arith, length, length-set}
 use lib.Seq.{take-length}
 use Rattle.ledger.specs.Calls.{overwritten}
 use Rattle.ledger.proofs.Lists.{filling_zero, fill, front_filled}

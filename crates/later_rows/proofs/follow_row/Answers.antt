@@ -1,5 +1,5 @@
 -- `later_rows::follow_row` meets its contract: of both rows the first k places are done, and as many are counted.
-use Rattle.std.proofs.Common.{◌≤◌, ◌-◌, ◌≡◌, refl, sym, ap₂, ◌∙◌, arith, length, get_or, length-set}
+use Rattle.std.proofs.Common.{◌≤◌, ◌≡◌, refl, sym, ap₂, ◌∙◌, arith, length, get_or, length-set}
 use Rattle.ledger.specs.Calls.{followed_entry, inherited_beyond, moved_entry}
 use Rattle.entries.proofs.RowLaws.{unfilled, filled_whole, differing_zero, differing_le, moved_entry_le, count_next}
 use Rattle.ledger.proofs.Lists.{filling_zero, fill}

@@ -1,5 +1,5 @@
 -- `list_dates` meets its contract. The invariant: the dates in the band below the one reached are counted, and listed as far as there is room.
-use Rattle.std.proofs.Common.{◌-◌, ◌<◌, arith}
+use Rattle.std.proofs.Common.{◌<◌, arith}
 use Rattle.ledger.specs.Store.{dates_of}
 use Rattle.ledger.proofs.Ready.{ready, header_there}
 use Rattle.band.proofs.Laws.{none_yet, one_more, listing_few}

@@ -1,5 +1,5 @@
 -- `sums::sum_all` meets its contract: the first k entries are added, modulo 2 ^ 64.
-use Rattle.std.proofs.Common.{◌-◌, arith}
+use Rattle.std.proofs.Common.{arith}
 use Rattle.day_reads.proofs.Laws.{sum_none, sum_next}
 use Rattle.day_reads.proofs.sums.sum_all.Goals as goal
 

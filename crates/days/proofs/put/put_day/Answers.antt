@@ -23,12 +23,11 @@ returns-then-old-new c =
     put_same a.dates a.category a.date _ _ (entries_meant a.entries) a.days.now _ (was (goal.at.returns-then-old-new c).After-place) c.day_counts-new.ensures c.place.ensures c.if-old-new.true
 
 pub raise_sums-requires : goal.raise_sums-requires
-raise_sums-requires c =
-    (
-      still_fit c.requires c.place.auto.days,
-      counts_small _ _ c.day_counts-old.ensures,
-      counts_small _ _ c.day_counts-new.ensures,
-    )
+raise_sums-requires c = (
+  still_fit c.requires c.place.auto.days,
+  counts_small _ _ c.day_counts-old.ensures,
+  counts_small _ _ c.day_counts-new.ensures,
+)
 
 pub returns : goal.returns
 returns c =

@@ -1,5 +1,5 @@
 -- `row::day_of_row` meets its contract: the first p cells are counted.
-use Rattle.std.proofs.Common.{◌-◌, ◌≤◌, min, ap, ◌∙◌, arith}
+use Rattle.std.proofs.Common.{◌≤◌, min, ap, ◌∙◌, arith}
 use Rattle.ledger.specs.Method.{is_fresh, is_blank}
 use Rattle.entries.proofs.DayLaws.{half_flag, half_counted}
 use Rattle.days.proofs.Laws.{none_counted, few_fresh, few_blanks, small_oldest, counted_next, counted_all}

@@ -1,5 +1,5 @@
 -- `row::value_sum` meets its contract: the first p values are summed, 96 of 32 bits at most.
-use Rattle.std.proofs.Common.{◌-◌, arith}
+use Rattle.std.proofs.Common.{arith}
 use Rattle.entries.proofs.SumLaws.{none_yet, one_more}
 use Rattle.days.proofs.row.value_sum.Goals as goal
 

@@ -1,5 +1,5 @@
 -- `sums::raise_all` meets its contract: the first k sums are raised.
-use Rattle.std.proofs.Common.{◌≡◌, ◌-◌, get_or, sym, refl, ap, ◌∙◌, arith, length-set}
+use Rattle.std.proofs.Common.{◌≡◌, get_or, sym, refl, ap, ◌∙◌, arith, length-set}
 use Rattle.ledger.specs.Calls.{wrapping_sum}
 use Rattle.ledger.proofs.Lists.{filling_zero, fill}
 use Rattle.entries.proofs.RowLaws.{unfilled, filled_whole}

@@ -1,5 +1,5 @@
 -- `category_records::categories_checked` meets its contract: the first i records are valid, each with a key of its own.
-use Rattle.std.proofs.Common.{◌-◌, arith}
+use Rattle.std.proofs.Common.{arith}
 use Rattle.ledger.proofs.Verdicts.{failing, passing, first_passed}
 use Rattle.opening.proofs.category_records.categories_checked.Goals as goal
 

@@ -1,7 +1,6 @@
 -- `category_records::key_taken` meets its contract: the records from n on, up to i, have another key.
 use Rattle.std.proofs.Common.{◌≡◌, sym, ◌∙◌, arith}
 use Rattle.ledger.proofs.Verdicts.{any_zero, any_found, any_passed}
-use Rattle.ledger.specs.Checks.{same_key}
 use Rattle.opening.proofs.category_records.key_taken.Goals as goal
 
 pub returns-then-same_key : goal.returns-then-same_key

@@ -1,5 +1,5 @@
 -- `day_types::day_types_checked` meets its contract: the first i day types are valid.
-use Rattle.std.proofs.Common.{◌-◌, arith}
+use Rattle.std.proofs.Common.{arith}
 use Rattle.ledger.proofs.Verdicts.{failing, passing, first_passed}
 use Rattle.opening.proofs.day_types.day_types_checked.Goals as goal
 

@@ -1,5 +1,5 @@
 -- `windows::windows_checked` meets its contract: the first i windows are good.
-use Rattle.std.proofs.Common.{◌-◌, arith}
+use Rattle.std.proofs.Common.{arith}
 use Rattle.ledger.proofs.Verdicts.{failing, passing, first_passed}
 use Rattle.opening.proofs.windows.windows_checked.Goals as goal
 

@@ -1,5 +1,5 @@
 -- `run_rows::shape_row` meets its contract: the first p places are written, and as many are counted.
-use Rattle.std.proofs.Common.{◌≤◌, ◌-◌, ◌≡◌, refl, sym, ap, ap₂, ◌∙◌, arith, length, get_or, length-set}
+use Rattle.std.proofs.Common.{◌≤◌, ◌≡◌, refl, sym, ap, ap₂, ◌∙◌, arith, length, get_or, length-set}
 use Rattle.ledger.specs.Calls.{compared_entry, moved_entry}
 use Rattle.entries.proofs.RowLaws.{unfilled, filled_whole, differing_zero, differing_le, moved_entry_le, count_next}
 use Rattle.ledger.proofs.Lists.{filling_zero, fill}
