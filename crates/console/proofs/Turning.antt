@@ -36,12 +36,12 @@ same_held s r same output records types waiting held =
 -- ---- why commands are no longer obeyed
 
 module _ (g : Setup) (s : State) (bytes : List ℕ) (waiting output : ℕ) where
-  pub pauses : (stage : Stage) → OneOf (0 ∷ 1 ∷ 2 ∷ 3 ∷ 5 ∷ 6 ∷ []) (tag_of the_type stage) → is_going stage ≡ false → Because g s bytes waiting output stage → (stage ≡ Full) ⊎ (stage ≡ Short)
+  pub pauses : (stage : Stage) → (stage ≡ SaidBad → ⊥) → is_going stage ≡ false → Because g s bytes waiting output stage → (stage ≡ Full) ⊎ (stage ≡ Short)
   pauses Going k e b = absurd (true≢false e)
   pauses Full k e b = inl refl
   pauses Short k e b = inr refl
   pauses InputEnd k e b = absurd b
-  pauses SaidBad k e b = absurd (miss (0 ∷ 1 ∷ 2 ∷ 3 ∷ 5 ∷ 6 ∷ []) 4 tt k)
+  pauses SaidBad k e b = absurd (k refl)
   pauses ReadFailed k e b = absurd b
   pauses WriteFailed k e b = absurd b
 

@@ -133,9 +133,9 @@ module _ (g : Setup) where
   ended d (x ∷ y ∷ ys) d' t going over = ended x (y ∷ ys) d' t.1 t.1.0.going over
 
 -- what is left at an end is what the program's last line is about
-last_line : (g : Setup) (d : Dialogue) → Ends g d → (d.stage ≡ InputEnd) ⊎ (d.stage ≡ SaidBad) →
+last_line_is : (g : Setup) (d : Dialogue) → Ends g d → (d.stage ≡ InputEnd) ⊎ (d.stage ≡ SaidBad) →
     (progress (store_program g) d.state d.untaken).output ++ ending (progress (store_program g) d.state d.untaken).untaken ≡ last_line d.stage
-last_line g d e end =
+last_line_is g d e end =
     let m = store_program g in
     ⊎_elim
     (λ (stage : d.stage ≡ InputEnd).
@@ -157,7 +157,7 @@ dialogue_is_program g parts ds d t end =
     let over = not_going d.stage end in
     let c = carried g (begun parts) ds d t in
     let q = progress (store_program g) d.state d.untaken in
-    rw (c.program, append_assoc c.lines q.output (ending q.untaken), last_line g d (ended g (begun parts) ds d t refl over) end)
+    rw (c.program, append_assoc c.lines q.output (ending q.untaken), last_line_is g d (ended g (begun parts) ds d t refl over) end)
     (ap (λ (l : List ℕ). c.lines ++ l) (sym (last_is ds t over)) ∙ c.printed)
   where
     last_is : (es : List Dialogue) → Turns g (begun parts) es d → (d.stage ≡ Going → ⊥) → last g es d ≡ last_line d.stage

@@ -1,1 +1,2 @@
 // No code: what a whole conversation prints, in specs and proofs.
+#![tactic(auto)]

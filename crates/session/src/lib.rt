@@ -1,4 +1,6 @@
 // What a dialogue holds between two commands, and the commands at hand obeyed one after the other.
+#![tactic(auto)]
+
 mod block;
 mod command;
 mod held;

@@ -19,13 +19,13 @@ suffices c = rw c.opening_operands-given.ensures at c.parts_suffice.ensures
 pub returns-then-parts_suffice-clause-appended : goal.returns-then-parts_suffice-clause-appended
 returns-then-parts_suffice-clause-appended c =
     let enough = sym (suffices (goal.at.returns-then-parts_suffice-clause-appended c).After-parts_suffice) ∙ c.if-parts_suffice.true in
-    let opened = rw c.opening_operands-given.ensures at (goal.at.returns-then-parts_suffice-clause-appended c).After-open-outcome.«open».ensures in
+    let opened = rw c.opening_operands-given.ensures at c.open-outcome.ensures in
     lent_line c.args.capacity (parts (goal.at.returns-then-parts_suffice-clause-appended c).After-parts_suffice) (asked (goal.at.returns-then-parts_suffice-clause-appended c).After-parts_suffice) enough opened c.append_outcome.ensures.appended
 
 pub returns-then-parts_suffice-clause-days_after : goal.returns-then-parts_suffice-clause-days_after
 returns-then-parts_suffice-clause-days_after c =
     let enough = sym (suffices (goal.at.returns-then-parts_suffice-clause-days_after c).After-parts_suffice) ∙ c.if-parts_suffice.true in
-    let opened = rw c.opening_operands-given.ensures at (goal.at.returns-then-parts_suffice-clause-days_after c).After-open-outcome.«open».ensures in
+    let opened = rw c.opening_operands-given.ensures at c.open-outcome.ensures in
     lent_parts c.args.capacity (parts (goal.at.returns-then-parts_suffice-clause-days_after c).After-parts_suffice) (asked (goal.at.returns-then-parts_suffice-clause-days_after c).After-parts_suffice) refl enough opened
 
 pub returns-clause-appended : goal.returns-clause-appended
