@@ -7,8 +7,6 @@ use mathlib.Core.List.{List, [], ◌∷◌, ◌++◌, append-nil, append_assoc}
 use native.Mathlib.Omega.{arith}
 use native.Mathlib.Nat.{not-suc-le-zero}
 use lib.ListN.{length, drop}
-use denote.Enum.Declared.{tag_of}
-use types.Run.{OneOf, miss}
 use Rattle.ledger.specs.Engine.{AreBytes}
 use Rattle.ledger.proofs.Lists.{part_length}
 use Rattle.ledger.proofs.Bytes.{bytes_take, bytes_drop}
@@ -20,7 +18,6 @@ use Rattle.session.specs.declared.held.Session.{Session}
 use Rattle.session.specs.declared.held.Stage.{Stage}
 use Rattle.session.specs.declared.held.Stage.TheVariants.{Going, Full, Short, InputEnd, SaidBad, ReadFailed, WriteFailed}
 use Rattle.session.specs.Session.{Held, BlockBounds, is_going, last_line, Because, Obeyed, state_of, untaken}
-use Rattle.session.specs.contracts.held.Stage.{the_type}
 use Rattle.console.specs.Turn.{Dialogue, HasRoom, SameCollected, Stands, Exchanged, Turned, Turns}
 
 -- ---- what only commands change

@@ -1,5 +1,6 @@
 // The engine's face: all that its users call and are answered with. No call has a `requires`; each contract stands with its call.
 #![tactic(auto)]
+
 pub use band::search_band;
 pub use day_reads::{read_coverage, read_totals};
 pub use entries::cell::{Cell, Flag, cell_of_entry, letter};

@@ -1,5 +1,5 @@
 -- `calls::gather` meets its contract: one record's body a turn.
-use Rattle.std.proofs.Common.{rules, ◌-◌, sym, arith}
+use Rattle.std.proofs.Common.{rules, sym, arith}
 use Rattle.commands.proofs.Laws.{no_bodies, record-length, body_step}
 use Rattle.commands.proofs.calls.gather.Goals as goal
 

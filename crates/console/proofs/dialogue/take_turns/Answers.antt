@@ -1,12 +1,11 @@
 -- `take_turns` meets its contract: turn by turn, up to an end or to the last of the turns.
-use Rattle.std.proofs.Common.{◌+◌, [], ◌∷◌, ◌++◌, arith, length-append}
+use Rattle.std.proofs.Common.{[], ◌∷◌, ◌++◌, arith, length-append}
 use Rattle.console.proofs.Turning.{turns_more}
 use Rattle.console.proofs.dialogue.take_turns.Goals as goal
 
 pub loop-session-preserved : goal.loop-session-preserved
 loop-session-preserved c =
-    let inv = c.loop-session.invariant in
-    (
+    let inv = c.loop-session.invariant in (
       rw inv.5 at c.turn-session.ensures.block_bounds_2.0,
       rw (inv.6, inv.7, inv.8) at c.turn-session.ensures.held_2,
       inv.2,

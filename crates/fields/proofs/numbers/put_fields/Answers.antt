@@ -1,5 +1,5 @@
 -- `put_fields` meets its contract. The invariant: the fields passed stand at the front of the list.
-use Rattle.std.proofs.Common.{◌-◌, ◌≡◌, sym, arith, pos, get_or}
+use Rattle.std.proofs.Common.{◌≡◌, sym, arith, pos, get_or}
 use borrow.Author.Rules.{sfits_of}
 use mir.Syntax.{w64}
 use mir.Val.{to_z, of_z}

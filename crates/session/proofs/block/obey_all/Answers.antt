@@ -1,5 +1,5 @@
 -- `obey_all` meets its contract: the program's progress so far, command by command.
-use Rattle.std.proofs.Common.{◌-◌, ◌≡◌, sym, ◌∙◌, true, arith}
+use Rattle.std.proofs.Common.{◌≡◌, sym, ◌∙◌, true, arith}
 use Rattle.session.specs.Session.{is_going}
 use Rattle.session.proofs.Laws.{going_only, obeyed_then}
 use Rattle.session.proofs.block.obey_all.Goals as goal

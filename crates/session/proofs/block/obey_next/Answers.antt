@@ -96,7 +96,7 @@ returns-in-Whole-clause-obeyed c =
     let same = command_bytes a.session.at a.session.end (count (goal.at.returns-in-Whole-clause-obeyed c).In-Whole) a.input.now (within (goal.at.returns-in-Whole-clause-obeyed c).In-Whole) in
     let behind = bytes_behind a.session.at a.session.end (count (goal.at.returns-in-Whole-clause-obeyed c).In-Whole) a.input.now (within (goal.at.returns-in-Whole-clause-obeyed c).In-Whole) _ _ place.0 place.1 in
     rw (place.3, c.requires.block_bounds.1)
-            (obeyed_one (setup (goal.at.returns-in-Whole-clause-obeyed c).Start) (state (goal.at.returns-in-Whole-clause-obeyed c).Start) (window (goal.at.returns-in-Whole-clause-obeyed c).Start) _ _ _ _ (length a.output.now) (count (goal.at.returns-in-Whole-clause-obeyed c).In-Whole) (extent-is (goal.at.returns-in-Whole-clause-obeyed c).After-command_extent-found (Whole (count (goal.at.returns-in-Whole-clause-obeyed c).In-Whole)) c.in-Whole.is)
-            (rw same c.obey.ensures.days_after)
-            behind
-            (rw same c.obey.ensures.output_after))
+    (obeyed_one (setup (goal.at.returns-in-Whole-clause-obeyed c).Start) (state (goal.at.returns-in-Whole-clause-obeyed c).Start) (window (goal.at.returns-in-Whole-clause-obeyed c).Start) _ _ _ _ (length a.output.now) (count (goal.at.returns-in-Whole-clause-obeyed c).In-Whole) (extent-is (goal.at.returns-in-Whole-clause-obeyed c).After-command_extent-found (Whole (count (goal.at.returns-in-Whole-clause-obeyed c).In-Whole)) c.in-Whole.is)
+    (rw same c.obey.ensures.days_after)
+    behind
+    (rw same c.obey.ensures.output_after))
