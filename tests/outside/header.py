@@ -38,7 +38,7 @@ def exported():
     text = (ROOT / 'crates' / 'jihoweka' / 'src' / 'lib.rt').read_text()
     functions = {}
     for name, parameters in re.findall(
-            r'#\[no_mangle\]\npub extern "C" fn (\w+)(?:<\'a>)?\((.*?)\) -> u64\n', text,
+            r'#\[unsafe\(no_mangle\)\]\npub extern "C" fn (\w+)(?:<\'a>)?\((.*?)\) -> u64\n', text,
             re.DOTALL):
         functions[name] = []
         for parameter in parameters.strip().rstrip(',').split(','):
@@ -66,9 +66,9 @@ def checks():
 def definitions():
     """Name of a part -> its least length in M, C, T and P, as Sizes.antt defines it."""
     text = (ROOT / 'crates' / 'ledger' / 'specs' / 'Sizes.antt').read_text()
-    header, = re.findall(r'^headerLength = (\d+)$', text, re.MULTILINE)
-    found = re.findall(r'^(\w+)Length ([MCTP ]+) = (.*)$', text, re.MULTILINE)
-    return {part: (names.split(), formula.replace('headerLength', header))
+    header, = re.findall(r'^header_length = (\d+)$', text, re.MULTILINE)
+    found = re.findall(r'^(\w+)_length ([MCTP ]+) = (.*)$', text, re.MULTILINE)
+    return {part: (names.split(), formula.replace('header_length', header))
             for part, names, formula in found}
 
 
