@@ -98,7 +98,7 @@ module _ (xs ys : List ℕ) where
   records_stable zero at =
       cases (leb at (length xs))
       (λ t. rw (records_none xs at (leb-true _ _ t), records_none (xs ++ ys) at (omega (arith, leb-true at (length xs) t, longer))) refl)
-      (λ f. rw (records_cut_last xs at (leb-false _ _ f)) tt)
+      (λ f. rw (records_cut_last xs at 0 (omega arith) (leb-false _ _ f)) tt)
   records_stable (suc n) at =
       cases (ltb at (length xs))
       (λ t.
