@@ -1,7 +1,7 @@
 -- Laws of the walk over dates: a date's entries, its tests, and a list with room for some dates.
 use Prim.Native.Nat.{ℕ, suc, ◌+◌, ◌≤◌, ◌<◌}
 use mathlib.Core.Path.{◌≡◌, refl, sym, ◌∙◌}
-use mathlib.Core.Bool.{Bool, true, false, cond}
+use mathlib.Core.Bool.{Bool, true, false, cond, ◌&&◌}
 use mathlib.Core.List.{List, [], ◌∷◌, ◌++◌, append_assoc, append-nil}
 use native.Mathlib.Omega.{arith}
 use native.Mathlib.Numerals.{add-one}
@@ -10,21 +10,22 @@ use lib.ListN.{length, take, drop, set, get_or, length-append, length-drop, leng
 use lib.Seq.{take_all, take-append-le, drop-cons, set_at, set_out}
 use lib.Dec.{leb}
 use borrow.Table.Steps.{cases}
-use borrow.Author.Tests.{eq-eqb, ne_eqb, lt-leb, le-leb, leb-true, leb-false}
+use borrow.Author.Tests.{eq-eqb, ne_eqb, leb-true, leb-false}
 use Rattle.ledger.specs.Table.{chosen_below}
 use Rattle.ledger.proofs.Chosen.{chosen_few}
 use Rattle.ledger.specs.Band.{in_band}
-use Rattle.ledger.specs.Store.{dates_of, day_type_of, tot_row, day_index, is_run_day, energy_of, totals_of}
+use Rattle.ledger.specs.Store.{settings_ready, days_ready, categories_of, dates_of, day_type_of, tot_row, day_index, is_run_day, energy_of, totals_of}
 use Rattle.ledger.specs.Calls.{entries_at, totals_for, overwritten}
 use Rattle.store.specs.DayRows.{RowsFit}
-use Rattle.store.proofs.DayLaws.{rows_fit}
+use Rattle.store.proofs.DayLaws.{days_long, rows_fit}
 use Rattle.band.specs.declared.dates.Sought.{Sought}
-use Rattle.band.specs.Search.{is_sought, listed, MaySearch}
+use Rattle.band.specs.Search.{is_sought, listed}
 
 -- ---- a date's entries lie in the days
 
-pub fits : {settings days : List ℕ} {category date dates : ℕ} → MaySearch settings days category → date < dates_of settings → dates ≡ dates_of settings → RowsFit dates category date (length days)
-fits {settings} {days} {category} {date} may a_date is = rows_fit settings category date (length days) may.opened may.room may.a_category a_date is
+pub fits : (settings days : List ℕ) {category date dates : ℕ} → settings_ready settings ≡ true → days_ready settings days ≡ true → category < categories_of settings → date < dates_of settings → dates ≡ dates_of settings →
+    RowsFit dates category date (length days)
+fits settings days {category} {date} opened long a_category a_date is = rows_fit settings category date (length days) opened (days_long settings days long) a_category a_date is
 
 -- ---- the tests of a date, in the code's order
 
@@ -46,13 +47,9 @@ module _ (settings days : List ℕ) (category : ℕ) (sought : Sought) (d : ℕ)
     unfolding totals_for totals_of entries_at
     tot_is = kept ∙ rw is
 
-    pub below_least : tot < sought.least → false ≡ is_sought settings days category sought d
+    pub within : (leb sought.least tot && leb tot sought.most) ≡ is_sought settings days category sought d
     unfolding in_band
-    below_least low = rw (run, ← type, eq-eqb _ _ same, ← tot_is, lt-leb _ _ low)
-
-    pub most_decides : sought.least ≤ tot → leb tot sought.most ≡ is_sought settings days category sought d
-    unfolding in_band
-    most_decides enough = rw (run, ← type, eq-eqb _ _ same, ← tot_is, le-leb _ _ enough)
+    within = rw (run, ← type, eq-eqb _ _ same, ← tot_is)
 
 -- ---- a list that gets as many dates as it holds
 
@@ -86,17 +83,6 @@ listed_more dates lent d =
 
 -- a turn of the walk: what is listed below date d, and what below the next
 
-module _ (dates : List ℕ) (found d : ℕ) where
-  pub date_left : (b : Bool) → b ≡ false → (dates ≡ cond b (set dates found d) dates) × (found ≡ found + cond b 1 0)
-  date_left b e = rw e (refl, sym (add-zero found))
-
-  pub date_put : (b : Bool) → b ≡ true → (set dates found d ≡ cond b (set dates found d) dates) × (found + 1 ≡ found + cond b 1 0)
-  date_put b e = rw e (refl, refl)
-
-  -- past the list's end there is no place
-  pub date_dropped : (b : Bool) → b ≡ true → length dates ≤ found → (dates ≡ cond b (set dates found d) dates) × (found + 1 ≡ found + cond b 1 0)
-  date_dropped b e full = rw (e, set_out dates found d full) (refl, refl)
-
 module _ (lent : List ℕ) (test : ℕ → Bool) where
   -- so far: those below date d are counted, and listed as far as there is room
   pub record Listing (d found : ℕ) (dates : List ℕ) : Type 0 where
@@ -126,9 +112,6 @@ module _ (lent : List ℕ) (test : ℕ → Bool) where
             (λ q. rw (q, so.are, so.counted) (listed_more (chosen_below d test) lent d))
             (λ q. rw (q, append-nil (chosen_below d test)) so.are));
       }
-
-  pub all_listed : (d n found : ℕ) (dates : List ℕ) → d ≡ n → Listing d found dates → (found ≡ length (chosen_below n test)) × (dates ≡ listed (chosen_below n test) lent)
-  all_listed d n found dates e so = rw (← e) (so.counted, so.are)
 
   pub listing_few : (d found : ℕ) (dates : List ℕ) → Listing d found dates → found ≤ d
   listing_few d found dates so = omega (arith, so.counted, chosen_few d test)

@@ -1,8 +1,7 @@
 -- What a band search is asked, as the ledger's call; a date that is sought; and a list that gets as many dates as it holds.
-use Rattle.std.specs.Prelude.{ℕ, ◌<◌, ◌≤◌, ◌≡◌, Bool, true, List, length, take}
+use Rattle.std.specs.Prelude.{ℕ, Bool, List, length, take}
 use Rattle.ledger.specs.Band.{BandCall, in_band}
-use Rattle.ledger.specs.Sizes.{days_length}
-use Rattle.ledger.specs.Store.{settings_ready, categories_of, dates_of, day_type_of, is_run_day}
+use Rattle.ledger.specs.Store.{dates_of, day_type_of, is_run_day}
 use Rattle.ledger.specs.Calls.{totals_for, overwritten}
 use Rattle.band.specs.declared.dates.Sought.{Sought}
 
@@ -20,8 +19,3 @@ is_sought settings days category sought d =
 -- the first of some dates, as many as there is room for
 unfoldable pub listed : List ℕ → List ℕ → List ℕ
 listed dates lent = overwritten (take (length lent) dates) lent
-
-pub record MaySearch (settings days : List ℕ) (category : ℕ) : Type 0 where
-  pub opened : settings_ready settings ≡ true
-  pub room : days_length (categories_of settings) (dates_of settings) ≤ length days
-  pub a_category : category < categories_of settings

@@ -1,14 +1,13 @@
 // The walk over the store's dates, by the days.
 ghost use Rattle.std.specs.Prelude.{◌≡◌, cond, ◌+◌, ◌<◌, length, set};
-ghost use Rattle.ledger.specs.Store.{dates_of};
+ghost use Rattle.ledger.specs.Store.{categories_of, dates_of};
 ghost use Rattle.ledger.specs.Table.{chosen_below};
-ghost use Rattle.band.specs.Search.{is_sought, listed, MaySearch};
+ghost use Rattle.band.specs.Search.{is_sought, listed};
 
 use entries::day::energy_of;
-use settings::category::day_type;
-use settings::header::date_count;
 use store::access::entry_at;
-use store::day_rows::{TOT, day_index, is_run_day};
+use store::day_rows::{DayRow, day_index, is_run_day};
+use store::lent::Days;
 
 // TOT from `least` to `most`, both included, on dates of a day type.
 #[derive(Clone, Copy)]
@@ -18,22 +17,20 @@ pub struct Sought {
     pub most: u64,
 }
 
-fn in_band(settings: &[u8], days: &[u64], category: u64, sought: Sought, date: u64) -> bool
-    requires { MaySearch settings.now days.now category × (date < dates_of settings.now) }
-    ensures { result ≡ is_sought settings.now days.now category sought date }
+#[tactic(auto, using(crate::proofs::Laws::other_type, crate::proofs::Laws::not_run_lem))]
+fn in_band(days: Days, category: u64, sought: Sought, date: u64) -> bool
+    requires { (category < categories_of days.settings.bytes.now) × (date < dates_of days.settings.bytes.now) }
+    ensures { result ≡ is_sought days.entry.settings.bytes.now days.entry.entries.now category sought date }
 {
-    if day_type(settings, date) != sought.day_type {
+    if days.settings.day_type(date) != sought.day_type {
         return false;
     }
-    let dates = date_count(settings);
-    if !is_run_day(dates, category, days, date) {
+    let dates = days.settings.date_count();
+    if !is_run_day(dates, category, days.entries, date) {
         return false;
     }
-    let tot = energy_of(entry_at(days, day_index(dates, category, TOT, date)));
-    if tot < sought.least {
-        return false;
-    }
-    tot <= sought.most
+    let tot = energy_of(entry_at(days.entries, day_index(dates, category, DayRow::Tot, date)));
+    (sought.least..=sought.most).contains(&tot)
 }
 
 // A date in the band goes behind the first `found`, where the list has room; the answer is how many there are then.
@@ -45,32 +42,23 @@ fn with_date(dates: &mut [u64], found: u64, matches: bool, date: u64) -> u64
     if !matches {
         return found;
     }
-    if dates.len() as u64 <= found {
-        return found + 1;
+    if found < dates.len() as u64 {
+        dates[found as usize] = date;
     }
-    dates[found as usize] = date;
     found + 1
 }
 
 // The answer is how many dates there are.
-pub fn list_dates(
-    settings: &[u8],
-    days: &[u64],
-    category: u64,
-    sought: Sought,
-    dates: &mut [u64],
-) -> u64
-    requires { MaySearch settings.now days.now category }
-    ensures value { result ≡ length (chosen_below (dates_of settings.now) (is_sought settings.now days.now category sought)) }
-    ensures dates_after { dates.new ≡ listed (chosen_below (dates_of settings.now) (is_sought settings.now days.now category sought)) dates.old }
+pub fn list_dates(days: Days, category: u64, sought: Sought, dates: &mut [u64]) -> u64
+    requires { category < categories_of days.settings.bytes.now }
+    ensures value { result ≡ length (chosen_below (dates_of days.entry.settings.bytes.now) (is_sought days.entry.settings.bytes.now days.entry.entries.now category sought)) }
+    ensures dates_after { dates.new ≡ listed (chosen_below (dates_of days.entry.settings.bytes.now) (is_sought days.entry.settings.bytes.now days.entry.entries.now category sought)) dates.old }
 {
-    let count = date_count(settings);
-    let mut found: u64 = 0;
-    let mut date: u64 = 0;
-    while date < count {
-        let matches = in_band(settings, days, category, sought, date);
+    let count = days.settings.date_count();
+    let mut found = 0;
+    for date in 0..count {
+        let matches = in_band(days, category, sought, date);
         found = with_date(dates, found, matches, date);
-        date += 1;
     }
     found
 }

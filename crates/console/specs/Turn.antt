@@ -1,10 +1,11 @@
 -- What a turn of the dialogue does, and a whole dialogue.
-use Rattle.std.specs.Prelude.{ℕ, zero, suc, ◌-◌, ◌≤◌, ◌<◌, ◌≡◌, ◌≢◌, ◌⊎◌, false, List, [], ◌∷◌, ◌++◌, length, take, ℤ, pos, negsuc}
+use Rattle.std.specs.Prelude.{ℕ, zero, suc, ◌-◌, ◌≤◌, ◌<◌, ◌≡◌, ◌≢◌, ◌⊎◌, false, List, [], ◌∷◌, ◌++◌, length, take, Option, None, Some, unwrap_or}
 use Rattle.std.proofs.Common.{inl, inr}
 use Rattle.input.specs.declared.extent.Extent.TheVariants.{Cut, Bad}
 use Rattle.ledger.specs.Engine.{Parts}
 use Rattle.commands.specs.Commands.{State}
 use Rattle.commands.specs.Program.{behind, progress, bad_line, output_of, Setup, store_program}
+use Rattle.session.specs.declared.held.Lent.{Lent}
 use Rattle.session.specs.declared.held.Session.{Session}
 use Rattle.session.specs.declared.held.Stage.{Stage}
 use Rattle.session.specs.declared.held.Stage.TheVariants.{Going, Full, Short, InputEnd, SaidBad, ReadFailed, WriteFailed}
@@ -26,6 +27,11 @@ dialogue_of s input output categoryRecords day_types settings meters readings ce
       stage = s.stage;
     }
 
+-- the same with what is lent
+abbrev pub dialogue_in : Session → List ℕ → List ℕ → Lent → Dialogue
+dialogue_in s input output lent =
+    dialogue_of s input output lent.category_records.now lent.day_types.now lent.settings.now lent.meters.now lent.readings.now lent.cells.now lent.days.now
+
 -- at first nothing is collected, read or printed
 abbrev pub begun : Parts → Dialogue
 begun parts = record { state = record { category_bytes = []; day_types = []; parts = parts }; untaken = []; waits = []; stage = Going }
@@ -45,16 +51,15 @@ abbrev pub Flushed : Session → Session → Type 0
 Flushed s r = (r ≡ with_waiting s 0) ⊎ ((r ≡ staged s WriteFailed) × (1 ≤ s.waiting))
 
 -- what a read's answer means, with `kept` bytes at hand: a failure, more bytes, or the input's end
-abbrev pub stage_after : ℤ → ℕ → Stage
-stage_after (negsuc k) kept = ReadFailed
-stage_after (pos zero) zero = InputEnd
-stage_after (pos zero) (suc kept) = SaidBad
-stage_after (pos (suc got)) kept = Going
+abbrev pub stage_after : Option ℕ → ℕ → Stage
+stage_after None kept = ReadFailed
+stage_after (Some zero) zero = InputEnd
+stage_after (Some zero) (suc kept) = SaidBad
+stage_after (Some (suc got)) kept = Going
 
 -- how many bytes it brought
-abbrev pub count_of : ℤ → ℕ
-count_of (negsuc k) = 0
-count_of (pos got) = got
+abbrev pub count_of : Option ℕ → ℕ
+count_of got = unwrap_or got 0
 
 -- how the dialogue stands then, `cut` saying that the bytes left are the start of a command, and `full` that output waited for room. What
 -- goes on has nothing waiting: behind a cut command something was read, else a full block was written out. At the input's end nothing may be

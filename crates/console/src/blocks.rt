@@ -2,8 +2,9 @@
 ghost use Rattle.std.specs.Prelude.{◌≡◌, [], ◌+◌, ◌≤◌, length, take, drop};
 ghost use Rattle.session.specs.declared.held.Stage.TheVariants.{Full, Short};
 ghost use Rattle.session.specs.Session.{BlockBounds, untaken};
-ghost use Rattle.console.specs.Turn.{HasRoom, SameCollected, Flushed, stage_after, count_of, Exchanged};
+ghost use Rattle.console.specs.Turn.{HasRoom, SameCollected, Flushed, stage_after, Exchanged};
 
+use crate::failure::or_say_failed;
 use crate::transfer::{read_some, write_out};
 use session::{Session, Stage, say_bad, with_stage};
 
@@ -20,56 +21,46 @@ pub fn flush(rt: &HostRuntime, session: Session, output: &[u8]) -> Session
     requires { session.waiting ≤ length output.now }
     ensures { Flushed session result }
 {
-    let waiting = session.waiting;
-    if write_out(rt, &output[..waiting]) {
-        let mut next = session;
-        next.waiting = 0;
-        return next;
+    let sent = write_out(rt, &output[..session.waiting]);
+    match or_say_failed(rt, "standard output", sent) {
+        Some(()) => Session {
+            waiting: 0,
+            ..session
+        },
+        None => with_stage(session, Stage::WriteFailed),
     }
-    with_stage(session, Stage::WriteFailed)
 }
 
 // A failed read is not the input's end, and at its end nothing may be cut.
-fn stage_after(got: isize, kept: usize) -> Stage
+fn stage_after(got: Option<usize>, kept: usize) -> Stage
     ensures { result ≡ stage_after got kept }
 {
-    if got < 0 {
-        return Stage::ReadFailed;
+    match (got, kept) {
+        (None, _) => Stage::ReadFailed,
+        (Some(0), 0) => Stage::InputEnd,
+        (Some(0), _) => Stage::SaidBad,
+        _ => Stage::Going,
     }
-    if 0 < got {
-        return Stage::Going;
-    }
-    if 0 < kept {
-        return Stage::SaidBad;
-    }
-    Stage::InputEnd
 }
 
-// The bytes that a read brought: none where it failed.
-fn count(got: isize) -> usize
-    ensures { result ≡ count_of got }
-{
-    if got < 0 { 0 } else { got as usize }
-}
-
-// Reads on behind the cut command.
+// Reads on behind the cut command. The session is a value and is handed back, the blocks are lent: they stay two.
 pub fn refill(rt: &HostRuntime, session: Session, input: &mut [u8], output: &mut [u8]) -> Session
     requires block_bounds { BlockBounds session (length input.old) × (session.stage ≡ Short) }
     requires waiting_value { (session.waiting ≡ 0) × (300 ≤ length output.old) × HasRoom session (length input.old) }
     ensures block_bounds_2 { BlockBounds result (length input.old) × (result.waiting ≤ length output.old) × SameCollected session result }
     ensures exchanged { Exchanged (session.stage ≡ Short) (session.stage ≡ Full) (untaken session input.old) [] (untaken result input.new) (take result.waiting output.new) result.stage }
 {
-    let mut next = session;
-    let at = next.at;
-    let kept = next.end - at;
+    let Session { at, end, .. } = session;
+    let kept = end - at;
     shift(input, at, kept);
-    let got = read_some(rt, &mut input[kept..]);
-    let fresh = count(got);
-    next.at = 0;
-    next.end = kept + fresh;
-    let stage = stage_after(got, kept);
-    match stage {
+    let got = or_say_failed(rt, "standard input", read_some(rt, &mut input[kept..]));
+    let next = Session {
+        at: 0,
+        end: kept + got.unwrap_or(0),
+        ..session
+    };
+    match stage_after(got, kept) {
         Stage::SaidBad => say_bad(next, output),
-        _ => with_stage(next, stage),
+        stage => with_stage(next, stage),
     }
 }

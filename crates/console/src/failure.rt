@@ -1,8 +1,24 @@
 // A line on standard error for a read or write that failed.
-use std::io::{Cursor, Error, Write};
+ghost use Rattle.std.specs.Prelude.{◌≡◌};
+ghost use Rattle.std.specs.Result.{result_ok};
+
+use std::io::{Cursor, Error, Result, Write};
+
+// What came of it, or none where it failed, which is said.
+pub fn or_say_failed<T>(rt: &HostRuntime, what: &str, done: Result<T>) -> Option<T>
+    ensures { result ≡ result_ok done }
+{
+    match done {
+        Ok(value) => Some(value),
+        Err(error) => {
+            say_failed(rt, what, &error);
+            None
+        }
+    }
+}
 
 // What failed, and the system's words for it without the number that std writes behind them.
-pub fn say_failed(rt: &HostRuntime, what: &str, error: &Error) {
+fn say_failed(rt: &HostRuntime, what: &str, error: &Error) {
     let mut text = Cursor::new([0u8; 128]);
     let _ = write!(text, "{error}");
     let bytes = text.into_inner();

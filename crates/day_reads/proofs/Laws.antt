@@ -1,62 +1,35 @@
--- The checks of the reads that go by the days, one after the other, what is known once they passed, and what is read then.
-use Rattle.std.proofs.Common.{◌≡◌, ℕ, ◌+◌, ◌-◌, ◌%◌, ◌<◌, ◌≤◌, Bool, true, false, not, ltb, leb, List, length, get_or, take, drop, sym, refl, ap, ◌∙◌, add-one, arith, ltb-true, le-ltb, lt-ltb, ne_eqb, le-leb, leb-false}
+-- What is known once the checks of a read by the days have passed, and what is read then.
+use Rattle.std.proofs.Common.{◌<◌, true, ◌≡◌, ℕ, zero, suc, take-suc, take_all, fold, ◌+◌, ◌%◌, ◌≤◌, not, ltb, leb, List, length, get_or, take, drop, sym, refl, ap, ◌∙◌, add-one, arith, ltb-true, leb-false}
 use native.Mathlib.Nat.{div-zero}
-use borrow.Author.Tests.{lt-leb, not-false}
+use Rattle.std.proofs.lemmas.List.Sums.{fold-append}
+use borrow.Author.Tests.{not-false}
 use Rattle.metering.specs.Sum.{sum_below, sum_below_zero, sum_below_suc}
 use Rattle.metering.specs.Average.{average, annual}
 use Rattle.ledger.specs.Checks.{read_check, totals_in_range}
-use Rattle.ledger.specs.Store.{categories_of, dates_of, category_of, day_row, sum_row, tot_row, off_row, day_index, DayEntries, is_run_day, coverage_of, peak_of, totals_of}
+use Rattle.ledger.specs.Store.{settings_ready, days_ready, categories_of, dates_of, category_of, day_row, sum_row, tot_row, off_row, day_index, DayEntries, coverage_of, totals_of}
 use Rattle.ledger.specs.Calls.{days_unready, day_verdict, stretch_sum, dates_sum, entries_at, totals_for, coverage_for}
 use Rattle.ledger.proofs.Choices.{check_passed}
 use Rattle.ledger.proofs.Lists.{part_length, part_at, sum_below_cong}
 use Rattle.store.specs.DayRows.{RowsFit}
-use Rattle.store.proofs.DayLaws.{days_lent, rows_fit}
-use Rattle.day_reads.specs.DayAccepted.{DayAccepted}
+use Rattle.store.proofs.DayLaws.{days_long, rows_fit}
 
 module _ (s days : List ℕ) (date category : ℕ) where
-  -- ---- the checks
-
-  pub by_short : {b : Bool} → b ≡ days_unready s days → b ≡ true → 1 ≡ (day_verdict s days date category).number
-  unfolding day_verdict read_check
-  by_short is short = rw (sym is ∙ short)
-
-  module _ {b : Bool} (is : b ≡ days_unready s days) (long : b ≡ false) where
-    pub by_date : dates_of s ≤ date → 9 ≡ (day_verdict s days date category).number
-    unfolding day_verdict read_check
-    by_date late = rw (sym is ∙ long, le-leb (dates_of s) date late)
-
-    module _ (a_date : date < dates_of s) where
-      pub by_category : categories_of s ≤ category → 15 ≡ (day_verdict s days date category).number
-      unfolding day_verdict read_check totals_in_range
-      by_category none = rw (sym is ∙ long, lt-leb (dates_of s) date a_date, le-ltb category (categories_of s) none)
-
-      module _ (a_category : category < categories_of s) where
-        pub by_day : is_run_day (dates_of s) category days date ≡ false → 14 ≡ (day_verdict s days date category).number
-        unfolding day_verdict read_check totals_in_range
-        by_day none = rw (sym is ∙ long, lt-leb (dates_of s) date a_date, lt-ltb category (categories_of s) a_category, none)
-
-        pub by_none : is_run_day (dates_of s) category days date ≡ true → 0 ≡ (day_verdict s days date category).number
-        unfolding day_verdict read_check totals_in_range
-        by_none some =
-            rw (sym is ∙ long, lt-leb (dates_of s) date a_date, lt-ltb category (categories_of s) a_category, some)
-
   pub place_is : (day_verdict s days date category).place ≡ 0
   unfolding day_verdict
   place_is = refl
 
   -- ---- what is known then
 
-  pub passed : (day_verdict s days date category).number ≡ 0 → DayAccepted s days date category
+  pub passed : (day_verdict s days date category).number ≡ 0 → (date < dates_of s) × (category < categories_of s)
   unfolding day_verdict read_check totals_in_range
   passed e =
       let p1 = check_passed (days_unready s days) 0 _ e in
       let p9 = check_passed (leb (dates_of s) date) 8 _ p1.1 in
       let p15 = check_passed (not (ltb category (categories_of s))) 14 _ p9.1 in
-      let parts = days_lent s days refl p1.0 in
-      record { opened = parts.0; room = parts.1; a_date = leb-false (dates_of s) date p9.0; a_category = ltb-true category (categories_of s) (not-false _ p15.0) }
+      (leb-false (dates_of s) date p9.0, ltb-true category (categories_of s) (not-false _ p15.0))
 
-  pub fits : {dates : ℕ} → DayAccepted s days date category → dates ≡ dates_of s → RowsFit dates category date (length days)
-  fits k is = rows_fit s category date (length days) k.opened k.room k.a_category k.a_date is
+  pub fits : {dates : ℕ} → settings_ready s ≡ true → days_ready s days ≡ true → (date < dates_of s) × (category < categories_of s) → dates ≡ dates_of s → RowsFit dates category date (length days)
+  fits opened long there is = rows_fit s category date (length days) opened (days_long s days long) there.1 there.0 is
 
   -- ---- the answers
 
@@ -80,8 +53,14 @@ module _ (s days : List ℕ) (date category : ℕ) where
 pub sum_next : (k sum next : ℕ) (f : ℕ → ℕ) → sum ≡ sum_below k f % 18446744073709551616 → next ≡ (sum + f k) % 18446744073709551616 → next ≡ sum_below (k + 1) f % 18446744073709551616
 sum_next k sum next f so is = let more = sum_below_suc k f in rw (add-one k) (omega arith)
 
-pub sum_none : (f : ℕ → ℕ) → 0 ≡ sum_below 0 f % 18446744073709551616
-sum_none f = rw (sum_below_zero f)
+folded_first : (xs : List ℕ) (k : ℕ) → k ≤ length xs → fold (λ sum x. (sum + x) % 18446744073709551616) 0 (take k xs) ≡ sum_below k (λ i. get_or xs i 0) % 18446744073709551616
+folded_first xs zero low = rw (sum_below_zero (λ i. get_or xs i 0))
+folded_first xs (suc k) low =
+    let before = folded_first xs k (omega arith) in
+    rw (take-suc xs k 0, fold-append) (rw add-one at (sum_next k _ _ (λ i. get_or xs i 0) before refl))
+
+pub folded : (xs : List ℕ) → fold (λ sum x. (sum + x) % 18446744073709551616) 0 xs ≡ sum_below (length xs) (λ i. get_or xs i 0) % 18446744073709551616
+folded xs = ap (fold (λ (sum x : ℕ). (sum + x) % 18446744073709551616) 0) (sym (take_all (length xs) xs (omega arith))) ∙ folded_first xs (length xs) (omega arith)
 
 -- the stretch lent
 pub stretch_is : (days : List ℕ) (first n w sum : ℕ) → first + n ≤ length days → w ≡ n →
@@ -91,14 +70,6 @@ stretch_is days first n w sum fits width is =
     is ∙ rw (width, part_length days first n fits) (ap (λ (x : ℕ). x % 18446744073709551616) (sum_below_cong n _ _ (λ k l. part_at days first n k l)))
 
 -- ---- what a store may hold that these calls did not make
-
-pub peak_none : (number tot off : ℕ) → number ≡ 0 → 0 ≡ peak_of number tot off
-unfolding peak_of
-peak_none number tot off none = rw none
-
-pub peak_some : (number tot off r : ℕ) → (number ≡ 0 → ⊥) → r ≡ tot - off → r ≡ peak_of number tot off
-unfolding peak_of
-peak_some number tot off r some is = is ∙ rw (ne_eqb number 0 some)
 
 -- no date is run: the definition divides by 0
 pub annual_none : (sum days : ℕ) → days ≡ 0 → 0 ≡ annual sum days

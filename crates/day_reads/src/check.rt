@@ -1,27 +1,32 @@
 // The checks of a read that goes by the days.
-ghost use Rattle.std.specs.Prelude.{◌≡◌};
+ghost use Rattle.std.specs.Prelude.{◌≡◌, IfOk};
+ghost use Rattle.store.specs.Outcome.{failed_number};
 ghost use Rattle.ledger.specs.Calls.{day_verdict};
 
-use settings::header::{category_count, date_count};
 use store::day_rows::is_run_day;
-use store::lent::days_unready;
+use store::lent::{Days, days_lent};
+use store::refusal::Check;
 
-// The number of the first failed one; 0 for none.
-pub fn day_number(settings: &[u8], days: &[u64], date: u64, category: u64) -> u64
-    ensures { result ≡ (day_verdict settings.now days.now date category).number }
+#[tactic(auto, unfolding(ledger::specs::Calls::day_verdict, ledger::specs::Checks::read_check, ledger::specs::Checks::totals_in_range))]
+pub fn check_day<'a>(
+    settings: &'a [u8],
+    days: &'a [u64],
+    date: u64,
+    category: u64,
+) -> Result<Days<'a>, Check>
+    ensures number { failed_number result ≡ (day_verdict settings.now days.now date category).number }
+    ensures lent { IfOk result (λ d. (d.settings.bytes.now ≡ settings.now) × (d.entries.now ≡ days.now)) }
 {
-    if days_unready(settings, days) {
-        return 1;
-    }
-    let dates = date_count(settings);
+    let days = days_lent(settings, days)?;
+    let dates = days.settings.date_count();
     if dates <= date {
-        return 9;
+        return Err(Check::Date);
     }
-    if category_count(settings) <= category {
-        return 15;
+    if days.settings.category_count() <= category {
+        return Err(Check::Range);
     }
-    if !is_run_day(dates, category, days, date) {
-        return 14;
+    if !is_run_day(dates, category, days.entries, date) {
+        return Err(Check::NotRun);
     }
-    0
+    Ok(days)
 }

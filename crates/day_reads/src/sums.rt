@@ -3,18 +3,12 @@ ghost use Rattle.std.specs.Prelude.{◌≡◌, ◌+◌, ◌%◌, ◌<◌, ◌≤
 ghost use Rattle.metering.specs.Sum.{sum_below};
 ghost use Rattle.ledger.specs.Calls.{stretch_sum, dates_sum};
 
-use std::num::wrapping_add_u64;
-
 fn sum_all(entries: &[u64]) -> u64
     ensures { result ≡ sum_below (length entries.now) (λ k. slice_index entries.now k) % 18446744073709551616 }
 {
-    let mut sum: u64 = 0;
-    let mut k: usize = 0;
-    while k < entries.len() {
-        sum = wrapping_add_u64(sum, entries[k]);
-        k += 1;
-    }
-    sum
+    entries
+        .iter()
+        .fold(0, |sum, entry| sum.wrapping_add(*entry))
 }
 
 fn stretch_sum(days: &[u64], first: u64, count: u64) -> u64
@@ -32,6 +26,7 @@ pub fn dates_sum(days: &[u64], at: u64, date: u64, most: u64) -> u64
     requires { (date < 800) × (date ≤ at) × (at < length days.now) }
     ensures { result ≡ dates_sum most date at days.now }
 {
+    // Not the smaller of both: a sum over a constant number of dates is faster.
     let dates = date + 1;
     if dates < most {
         return stretch_sum(days, at + 1 - dates, dates);

@@ -1,35 +1,32 @@
 // All figures of a run date and category.
 ghost use Rattle.std.specs.Prelude.{◌≡◌, ◌<◌};
 ghost use Rattle.metering.specs.Average.{annual};
-ghost use Rattle.ledger.specs.Store.{peak_of, totals_of};
+ghost use Rattle.ledger.specs.Store.{categories_of, dates_of, peak_of, totals_of};
 ghost use Rattle.ledger.specs.Calls.{totals_for};
 ghost use Rattle.store.specs.Outcome.{totals_meant};
 ghost use Rattle.store.specs.DayRows.{entries_meant};
-ghost use Rattle.day_reads.specs.DayAccepted.{DayAccepted};
 
 use crate::sums::dates_sum;
 use entries::day::{day_blanks, day_fresh, energy_of, run_dates_of};
 use metering::average::annual_figure;
-use settings::category::window;
-use settings::header::date_count;
 use store::access::entry_at;
-use store::day_rows::{DAY, DayEntries, OFF, TOT, day_index};
+use store::day_rows::{DayEntries, DayRow, day_index};
+use store::lent::Days;
 use store::outcome::Totals;
 
 // On a store that these calls did not make OFF may be above TOT.
+#[tactic(auto, unfolding(ledger::specs::Store::peak_of))]
 fn peak_of(number: u64, tot: u64, off: u64) -> u64
     ensures { result ≡ peak_of number tot off }
 {
     if number == 0 {
         return 0;
     }
-    if tot < off {
-        return 0;
-    }
-    tot - off
+    tot.saturating_sub(off)
 }
 
 // And no date may count as run.
+#[tactic(auto, using(crate::proofs::Laws::annual_none))]
 fn annual_of(sum: u64, days: u64) -> u64
     requires { sum < 281474976710656 }
     ensures { result ≡ annual sum days }
@@ -65,20 +62,26 @@ fn totals_from(number: u64, entries: DayEntries, week: u64, off_week: u64, year:
     }
 }
 
-pub fn totals_of(settings: &[u8], days: &[u64], date: u64, category: u64) -> Totals
-    requires { DayAccepted settings.now days.now date category }
-    ensures { totals_meant result ≡ totals_for settings.now days.now date category }
+pub fn totals_of(days: Days, date: u64, category: u64) -> Totals
+    requires { (date < dates_of days.settings.bytes.now) × (category < categories_of days.settings.bytes.now) }
+    ensures { totals_meant result ≡ totals_for days.entry.settings.bytes.now days.entry.entries.now date category }
 {
-    let dates = date_count(settings);
-    let tot_at = day_index(dates, category, TOT, date);
-    let off_at = day_index(dates, category, OFF, date);
+    let dates = days.settings.date_count();
+    let tot_at = day_index(dates, category, DayRow::Tot, date);
+    let off_at = day_index(dates, category, DayRow::Off, date);
     let entries = DayEntries {
-        day: entry_at(days, day_index(dates, category, DAY, date)),
-        tot: entry_at(days, tot_at),
-        off: entry_at(days, off_at),
+        day: entry_at(days.entries, day_index(dates, category, DayRow::Day, date)),
+        tot: entry_at(days.entries, tot_at),
+        off: entry_at(days.entries, off_at),
     };
-    let week = dates_sum(days, tot_at, date, 7);
-    let off_week = dates_sum(days, off_at, date, 7);
-    let year = dates_sum(days, tot_at, date, 365);
-    totals_from(window(settings, category), entries, week, off_week, year)
+    let week = dates_sum(days.entries, tot_at, date, 7);
+    let off_week = dates_sum(days.entries, off_at, date, 7);
+    let year = dates_sum(days.entries, tot_at, date, 365);
+    totals_from(
+        days.settings.window(category),
+        entries,
+        week,
+        off_week,
+        year,
+    )
 }

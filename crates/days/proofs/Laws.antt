@@ -1,18 +1,20 @@
 -- A row counted and summed cell by cell, sums by wrapping differences, and days put category by category.
-use Rattle.std.proofs.Common.{◌≡◌, ℕ, suc, ◌+◌, ◌-◌, ◌*◌, ◌%◌, ◌<◌, ◌≤◌, min, Bool, cond, List, length, get_or, take, drop, set, sym, refl, ap, ◌∙◌, append_assoc, mul-le-mul_right, suc-mul, add-one, arith, drop-drop, eq-eqb, ne_eqb}
+use Rattle.std.proofs.Common.{◌≡◌, ℕ, suc, ◌+◌, ◌*◌, ◌%◌, ◌<◌, ◌≤◌, min, Bool, true, cond, List, length, get_or, take, drop, sym, refl, ap, ◌∙◌, append_assoc, mul-le-mul_right, add-one, arith, drop-drop}
 use lib.Seq.{sets-eq}
 use Rattle.metering.specs.Sum.{sum_below, sum_below_zero, sum_below_suc}
 use Rattle.metering.specs.Calendar.{periods_per_day, lies_within, covers, PeriodsWithin}
 use Rattle.ledger.specs.Method.{Window, Cell, is_fresh, is_blank, fresh_among, blanks_among, origin_of, oldest_among}
 use Rattle.ledger.specs.Table.{tabulate}
-use Rattle.ledger.specs.Store.{duration_of, categories_of, dates_of, periods_of, window_of, row_length, category_of, cell_of_entry, day_row, sum_row, tot_row, off_row, day_index, DayEntries, day_entry, day_entry_of, tot_entry, tot_among, off_among, day_entries_of, counts_of}
-use Rattle.ledger.specs.Calls.{wrapping_sum, wrapping_difference, raised, raised_sums, placed, put_day, entries_for, kept_days}
+use Rattle.ledger.specs.Store.{duration_of, categories_of, dates_of, periods_of, window_of, row_length, category_of, cell_of_entry, DayEntries, day_entry, day_entry_of, tot_entry, tot_among, off_among, day_entries_of}
+use Rattle.ledger.specs.Calls.{wrapping_sum, raised, put_day, entries_for, kept_days}
 use Rattle.entries.specs.Row.{spliced}
+use Rattle.ledger.specs.Store.{settings_ready}
+use Rattle.ledger.proofs.Ready.{ready, periods_bound}
 use Rattle.entries.specs.Sums.{Summed}
 use Rattle.ledger.proofs.Lists.{length_tabulate, tabulate_ext, part_length, part_at, sum_below_cong}
 use Rattle.ledger.proofs.Days.{fresh_most, blanks_most, oldest_most}
 use Rattle.ledger.proofs.Kept.{for_cong}
-use Rattle.store.specs.DayRows.{RowsFit}
+use Rattle.entries.proofs.DayLaws.{half_flag, half_counted}
 use Rattle.metering.specs.declared.calendar.Stretch.{Stretch}
 use Rattle.days.specs.Window.{entries_in}
 use Rattle.days.proofs.WindowLaws.{sum_of_stretch}
@@ -29,29 +31,25 @@ pub none_counted : (cells : ℕ → Cell) → CountedTo cells 0 0 0 65535
 unfolding fresh_among blanks_among oldest_among
 none_counted cells = record { fresh_is = sym (sum_below_zero _); blanks_are = sym (sum_below_zero _); oldest_is = refl }
 
-module _ (cells : ℕ → Cell) (p fresh blanks oldest : ℕ) (so : CountedTo cells p fresh blanks oldest) where
-  pub few_fresh : fresh ≤ p
-  few_fresh = rw so.fresh_is (fresh_most p cells)
+-- so few that there is room
+pub few_counted : {cells : ℕ → Cell} {p fresh blanks oldest : ℕ} → CountedTo cells p fresh blanks oldest → (fresh ≤ p) × (blanks ≤ p) × (oldest ≤ 65535)
+few_counted {cells = cells} {p = p} so = (rw so.fresh_is (fresh_most p cells), rw so.blanks_are (blanks_most p cells), rw so.oldest_is (oldest_most p cells))
 
-  pub few_blanks : blanks ≤ p
-  few_blanks = rw so.blanks_are (blanks_most p cells)
+-- a turn: one cell more, read in the lower half of its entry
+pub counted_next : (xs : List ℕ) {p fresh blanks oldest f b o half least : ℕ} → CountedTo (λ k. cell_of_entry (get_or xs k 0)) p fresh blanks oldest →
+    half ≡ get_or xs p 0 % 4294967296 → f ≡ is_fresh (cell_of_entry half).flag → b ≡ is_blank (cell_of_entry half).flag → o ≡ origin_of (cell_of_entry half) →
+    least ≡ min oldest o → CountedTo (λ k. cell_of_entry (get_or xs k 0)) (p + 1) (fresh + f) (blanks + b) least
+unfolding fresh_among blanks_among oldest_among
+counted_next xs {p = p} {oldest = oldest} so lower fs bs os is =
+    record {
+      fresh_is = rw (so.fresh_is, fs ∙ ap is_fresh (half_flag _ _ lower), add-one p) (sym (sum_below_suc p (λ k. is_fresh (cell_of_entry (get_or xs k 0)).flag)));
+      blanks_are = rw (so.blanks_are, bs ∙ ap is_blank (half_flag _ _ lower), add-one p) (sym (sum_below_suc p (λ k. is_blank (cell_of_entry (get_or xs k 0)).flag)));
+      oldest_is = is ∙ ap (min oldest) (os ∙ half_counted _ _ lower) ∙ rw (so.oldest_is, add-one p);
+    }
 
-  pub small_oldest : oldest ≤ 65535
-  small_oldest = rw so.oldest_is (oldest_most p cells)
-
-  -- a turn: one cell more
-  pub counted_next : (f b o : ℕ) → f ≡ is_fresh (cells p).flag → b ≡ is_blank (cells p).flag → o ≡ min oldest (origin_of (cells p)) → CountedTo cells (p + 1) (fresh + f) (blanks + b) o
-  unfolding fresh_among blanks_among oldest_among
-  counted_next f b o fs bs os =
-      record {
-        fresh_is = rw (so.fresh_is, fs, add-one p) (sym (sum_below_suc p (λ k. is_fresh (cells k).flag)));
-        blanks_are = rw (so.blanks_are, bs, add-one p) (sym (sum_below_suc p (λ k. is_blank (cells k).flag)));
-        oldest_is = os ∙ rw (so.oldest_is, add-one p);
-      }
-
-  pub counted_all : (n r : ℕ) → p ≡ n → r ≡ day_entry fresh blanks oldest → r ≡ day_entry_of n cells
-  unfolding day_entry_of
-  counted_all n r e is = is ∙ rw (so.fresh_is, so.blanks_are, so.oldest_is, e)
+pub counted_all : {cells : ℕ → Cell} {p n fresh blanks oldest r : ℕ} → CountedTo cells p fresh blanks oldest → p ≡ n → r ≡ day_entry fresh blanks oldest → r ≡ day_entry_of n cells
+unfolding day_entry_of
+counted_all so e is = is ∙ rw (so.fresh_is, so.blanks_are, so.oldest_is, e)
 
 -- ---- sums raised
 
@@ -66,48 +64,11 @@ raised_is by n first w xs ys fits width is =
     is ∙ rw (width, part_length xs first n fits) (tabulate_ext n _ (λ k. wrapping_sum (get_or xs (first + k) 0) by) (λ k l. ap (λ (x : ℕ). wrapping_sum x by) (part_at xs first n k l))) in
     rw (width, same, drop-drop n first xs) (sym (sets-eq new xs first (rw long fits) ∙ rw long (append_assoc (take first xs) new (drop (first + n) xs))))
 
--- what `wrapping_sub_u64` answers
-pub difference_is : (a b r : ℕ) → a < 18446744073709551616 → b < 18446744073709551616 → r < 18446744073709551616 → (r + b) % 18446744073709551616 ≡ a → r ≡ wrapping_difference a b
-unfolding wrapping_difference wrapping_sum
-difference_is a b r ha hb hr e = omega arith
-
--- the sums of a category's dates from one on lie in its rows
-pub sums_fit : (dates category date n L first : ℕ) → RowsFit dates category date L → first ≡ day_index dates category sum_row date → n ≤ dates - date → first + n ≤ L
-unfolding day_index
-sums_fit dates category date n L first fit is few = let room = fit.room in let h = fit.a_date in omega arith
-
--- week first, then year
-pub sums_are : (dates category date old new first week year by more : ℕ) (days days' days'' : List ℕ) → first ≡ day_index dates category sum_row date →
-    week ≡ min 7 (dates - date) → by ≡ wrapping_difference new old → days' ≡ raised by week first days →
-    year ≡ min 365 (dates - date) → more ≡ wrapping_difference (4294967296 * new) (4294967296 * old) → days'' ≡ raised more year first days' →
-    days'' ≡ raised_sums dates category date old new days
-unfolding raised_sums
-sums_are dates category date old new first week year by more days days' days'' at w b e y m f = f ∙ rw (e, at, w, b, y, m)
-
--- ---- a date's entries put
-
--- one after the other
-pub placed_is : (dates category date day tot off : ℕ) (entries : DayEntries) (days one two three : List ℕ) → day ≡ day_index dates category day_row date → one ≡ set days day entries.day →
-    tot ≡ day_index dates category tot_row date → two ≡ set one tot entries.tot → off ≡ day_index dates category off_row date → three ≡ set two off entries.off →
-    three ≡ placed dates category date entries days
-unfolding placed
-placed_is dates category date day tot off entries days one two three d a t b o c = c ∙ rw (b, a, d, t, o)
-
-module _ (dates category date old new : ℕ) (entries : DayEntries) (days put : List ℕ) (was : old ≡ counts_of (get_or days (day_index dates category day_row date) 0))
-    (is : new ≡ counts_of entries.day) (done : put ≡ placed dates category date entries days) where
-  pub put_same : old ≡ new → put ≡ put_day dates category date entries days
-  unfolding put_day
-  put_same same = done ∙ rw (← was, ← is, eq-eqb old new same)
-
-  pub put_other : (days' : List ℕ) → (old ≡ new → ⊥) → days' ≡ raised_sums dates category date old new put → days' ≡ put_day dates category date entries days
-  unfolding put_day
-  put_other days' other e = e ∙ rw (done, ← was, ← is, ne_eqb old new other)
-
-pub counts_small : (entry r : ℕ) → r ≡ counts_of entry → r < 4294967296
-unfolding counts_of
-counts_small entry r is = omega arith
-
 -- ---- a date's days, category by category
+
+-- what there is of each
+pub sizes : (s : List ℕ) → settings_ready s ≡ true → (categories_of s ≤ 64) × (dates_of s ≤ 800) × (periods_of s ≤ 96)
+sizes s opened = let known = ready s opened in (known.categories.1, known.dates.1, (periods_bound s known).1)
 
 -- a category's stretch lies in the row
 pub stretch_fits : (s row : List ℕ) (category : ℕ) → length row ≡ row_length s → category < categories_of s → category * periods_of s + periods_of s ≤ length row
@@ -124,13 +85,6 @@ kept_next s date c at w e row days₀ days days' start width fits entry so put =
     ∙ rw (so, entry, start, width, add-one c)
     (ap (λ (x : DayEntries). put_day (dates_of s) c date x (kept_days s date row c days₀))
     (for_cong s c _ (λ p. cell_of_entry (get_or row (c * periods_of s + p) 0)) (λ k l. ap cell_of_entry (part_at row (c * periods_of s) (periods_of s) k l))))
-
-pub none_kept : (s : List ℕ) (date : ℕ) (row days : List ℕ) → days ≡ kept_days s date row 0 days
-unfolding kept_days
-none_kept s date row days = refl
-
-pub next_start : (c P at periods : ℕ) → at ≡ c * P → periods ≡ P → at + periods ≡ (c + 1) * P
-next_start c P at periods start is = rw (start, is, add-one c) (sym (suc-mul c P))
 
 -- ---- a category's entries
 

@@ -1,5 +1,5 @@
 // A category's day, counted and summed in its row of cells.
-ghost use Rattle.std.specs.Prelude.{◌≡◌, ◌+◌, ◌≤◌, min, length, slice_index};
+ghost use Rattle.std.specs.Prelude.{◌≡◌, ◌+◌, ◌≤◌, length, slice_index};
 ghost use Rattle.ledger.specs.Store.{cell_of_entry, day_entry_of};
 ghost use Rattle.entries.specs.Sums.{Summed};
 ghost use Rattle.store.specs.DayRows.{entries_meant};
@@ -9,15 +9,6 @@ use entries::day::{blank_in, day_entry, fresh_in, lower_half, origin_in, tot_ent
 use metering::calendar::Stretch;
 use store::day_rows::DayEntries;
 
-fn older(a: u32, b: u32) -> u32
-    ensures { result ≡ min a b }
-{
-    if b < a {
-        return b;
-    }
-    a
-}
-
 fn day_of_row(row: &[u64]) -> u64
     requires { length row.now ≤ 96 }
     ensures { result ≡ day_entry_of (length row.now) (λ p. cell_of_entry (slice_index row.now p)) }
@@ -25,26 +16,23 @@ fn day_of_row(row: &[u64]) -> u64
     let mut fresh: u32 = 0;
     let mut blanks: u32 = 0;
     let mut oldest: u32 = 65535;
-    let mut p: usize = 0;
-    while p < row.len() {
-        let half = lower_half(row[p]);
+    for entry in row {
+        let half = lower_half(*entry);
         fresh += fresh_in(half);
         blanks += blank_in(half);
-        oldest = older(oldest, origin_in(half));
-        p += 1;
+        oldest = oldest.min(origin_in(half));
     }
     day_entry(fresh as u64, blanks as u64, oldest as u64)
 }
 
+// A loop and no `sum`: the bound of each value is what keeps this within 64 bits, where `day_reads` wraps.
 fn value_sum(row: &[u64]) -> u64
     requires { length row.now ≤ 96 }
     ensures { Summed (length row.now) 4294967295 (λ p. (cell_of_entry (slice_index row.now p)).value) result }
 {
     let mut sum: u64 = 0;
-    let mut p: usize = 0;
-    while p < row.len() {
-        sum += value_in(row[p]);
-        p += 1;
+    for entry in row {
+        sum += value_in(*entry);
     }
     sum
 }

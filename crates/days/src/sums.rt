@@ -3,20 +3,17 @@ ghost use Rattle.std.specs.Prelude.{◌≡◌, ◌+◌, ◌≤◌, length, slice
 ghost use Rattle.ledger.specs.Table.{tabulate};
 ghost use Rattle.ledger.specs.Calls.{wrapping_sum, raised};
 
-use std::num::wrapping_add_u64;
-
 #[tactic(auto, unfolding(ledger::specs::Calls::wrapping_sum))]
 fn raise_all(sums: &mut [u64], by: u64)
     ensures { sums.new ≡ tabulate (length sums.old) (λ k. wrapping_sum (slice_index sums.old k) by) }
 {
-    let mut k: usize = 0;
-    while k < sums.len() {
-        sums[k] = wrapping_add_u64(sums[k], by);
-        k += 1;
+    for sum in sums.iter_mut() {
+        *sum = sum.wrapping_add(by);
     }
 }
 
 // `count` sums from `first` on.
+#[tactic(auto, using(crate::proofs::Laws::raised_is))]
 pub fn raise(days: &mut [u64], first: u64, count: u64, by: u64)
     requires { first + count ≤ length days.old }
     ensures { days.new ≡ raised by count first days.old }

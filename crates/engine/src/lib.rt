@@ -14,7 +14,5 @@ pub use registration::register;
 pub use run::preview::preview;
 pub use run::run;
 pub use settings::writing::OpeningTerms;
-pub use store::outcome::{
-    Band, BandOutcome, CellOutcome, Coverage, CoverageOutcome, Net, NetOutcome, Outcome,
-    RunOutcome, Totals, TotalsOutcome,
-};
+pub use store::outcome::{Band, Coverage, Net, Totals};
+pub use store::refusal::{Check, Refusal};

@@ -3,20 +3,10 @@ use Prim.Native.Nat.{ℕ, ◌/◌, ◌%◌}
 use mathlib.Core.Path.{◌≡◌, sym, ap, ◌∙◌}
 use mathlib.Core.Logic.{◌≢◌}
 use native.Mathlib.Omega.{arith}
-use lib.Dec.{eqb}
-use borrow.Table.Steps.{cases}
 use borrow.Author.Tests.{ne_eqb}
-use Rattle.ledger.specs.Method.{N, Cell, is_fresh, is_blank, origin_of}
+use Rattle.ledger.specs.Method.{N, Cell, is_blank, origin_of}
 use Rattle.ledger.specs.Store.{flag_of, flag_number_of, cell_of_entry}
-use Rattle.ledger.proofs.Entries.{flag_none, flag_zero, origin_shaped, origin_blank, blank_is_N, shape_not_blank}
-
--- ---- flags by their numbers
-
-pub not_fresh : (n : ℕ) → n ≢ 1 → n ≢ 2 → 0 ≡ is_fresh (flag_of n)
-not_fresh n a b = rw (ne_eqb n 1 a, ne_eqb n 2 b) (cases (eqb n 3) (λ e. rw e) (λ e. rw e))
-
-pub not_blank : (e : ℕ) → flag_number_of e ≢ 0 → 0 ≡ is_blank (cell_of_entry e).flag
-not_blank e some = sym (shape_not_blank (cell_of_entry e).flag (λ none. some (flag_zero e none)))
+use Rattle.ledger.proofs.Entries.{flag_none, origin_shaped, origin_blank, blank_is_N}
 
 -- ---- origins
 

@@ -7,7 +7,7 @@ ghost use Rattle.entries.specs.Cell.{flag_meant, cell_meant};
 
 use metering::average::Average;
 
-#[derive(Clone, Copy)]
+#[derive(Clone, Copy, Debug, PartialEq, Eq)]
 pub enum Flag {
     A,
     D,
@@ -15,7 +15,33 @@ pub enum Flag {
     N,
 }
 
-#[derive(Clone, Copy)]
+// Methods and no `From`: only this module knows an entry's numbers.
+impl Flag {
+    // Of an entry's number; any other is N.
+    fn from_number(number: u64) -> Flag
+        ensures { flag_meant result ≡ flag_of number }
+    {
+        match number {
+            1 => Flag::A,
+            2 => Flag::D,
+            3 => Flag::E,
+            _ => Flag::N,
+        }
+    }
+
+    fn number(self) -> u64
+        ensures { result ≡ flag_number (flag_meant self) }
+    {
+        match self {
+            Flag::A => 1,
+            Flag::D => 2,
+            Flag::E => 3,
+            Flag::N => 0,
+        }
+    }
+}
+
+#[derive(Clone, Copy, Debug, PartialEq, Eq)]
 pub struct Cell {
     pub flag: Flag,
     pub value: u64,
@@ -25,12 +51,12 @@ pub struct Cell {
 }
 
 impl Cell {
-    // The average of a category's own readings on the date.
-    pub fn own(date: u64, average: Average, count: u64) -> Cell
-        ensures { cell_meant result ≡ own_cell date average.value count average.remainder }
+    // An average on a date, under a flag.
+    fn averaged(flag: Flag, date: u64, average: Average, count: u64) -> Cell
+        ensures { result ≡ record { flag = flag; value = average.value; count = count; origin = date; remainder = average.remainder } }
     {
         Cell {
-            flag: Flag::A,
+            flag,
             value: average.value,
             count,
             origin: date,
@@ -38,17 +64,18 @@ impl Cell {
         }
     }
 
+    // The average of a category's own readings on the date.
+    pub fn own(date: u64, average: Average, count: u64) -> Cell
+        ensures { cell_meant result ≡ own_cell date average.value count average.remainder }
+    {
+        Cell::averaged(Flag::A, date, average, count)
+    }
+
     // The average over its family.
     pub fn pooled(date: u64, average: Average, count: u64) -> Cell
         ensures { cell_meant result ≡ pooled_cell date average.value count average.remainder }
     {
-        Cell {
-            flag: Flag::D,
-            value: average.value,
-            count,
-            origin: date,
-            remainder: average.remainder,
-        }
+        Cell::averaged(Flag::D, date, average, count)
     }
 
     #[tactic(auto, unfolding(ledger::specs::Method::blank))]
@@ -69,13 +96,7 @@ impl Cell {
     pub fn is_own(self) -> bool
         ensures { result ≡ is_own_cell (cell_meant self) }
     {
-        let flag = self.flag;
-        match flag {
-            Flag::A => true,
-            Flag::D => true,
-            Flag::E => false,
-            Flag::N => false,
-        }
+        matches!(self.flag, Flag::A | Flag::D)
     }
 
     // What a later date takes over: the same under flag E, and nothing from nothing.
@@ -83,16 +104,11 @@ impl Cell {
     pub fn carried(self) -> Cell
         ensures { cell_meant result ≡ carried (cell_meant self) }
     {
-        let blank = Cell::blank();
-        let flag = self.flag;
-        match flag {
-            Flag::N => blank,
+        match self.flag {
+            Flag::N => Cell::blank(),
             _ => Cell {
                 flag: Flag::E,
-                value: self.value,
-                count: self.count,
-                origin: self.origin,
-                remainder: self.remainder,
+                ..self
             },
         }
     }
@@ -105,33 +121,7 @@ fn flag_number(entry: u64) -> u64
     entry % 4
 }
 
-fn flag_of(number: u64) -> Flag
-    ensures { flag_meant result ≡ flag_of number }
-{
-    if number == 1 {
-        return Flag::A;
-    }
-    if number == 2 {
-        return Flag::D;
-    }
-    if number == 3 {
-        return Flag::E;
-    }
-    Flag::N
-}
-
-fn number_of(flag: Flag) -> u64
-    ensures { result ≡ flag_number (flag_meant flag) }
-{
-    match flag {
-        Flag::A => 1,
-        Flag::D => 2,
-        Flag::E => 3,
-        Flag::N => 0,
-    }
-}
-
-// A flag's letter in ASCII.
+// A flag's letter in ASCII. A function, as the engine hands it on.
 pub fn letter(flag: Flag) -> u8
     ensures { result ≡ letter_of (flag_meant flag) }
 {
@@ -143,24 +133,20 @@ pub fn letter(flag: Flag) -> u8
     }
 }
 
-#[tactic(auto, unfolding(ledger::specs::Store::cell_of_entry))]
+#[tactic(auto, unfolding(ledger::specs::Store::cell_of_entry, ledger::specs::Method::blank))]
 pub fn cell_of_entry(entry: u64) -> Cell
     ensures { cell_meant result ≡ cell_of_entry entry }
 {
     let number = flag_number(entry);
-    let flag = flag_of(number);
     let value = entry / 4294967296;
     if number == 0 {
         return Cell {
-            flag,
             value,
-            count: 0,
-            origin: 65535,
-            remainder: 0,
+            ..Cell::blank()
         };
     }
     Cell {
-        flag,
+        flag: Flag::from_number(number),
         value,
         count: entry / 4 % 1024 + 1,
         origin: entry / 4096 % 1024,
@@ -176,12 +162,13 @@ fn remainder_bits(remainder: i64) -> u64
     (remainder + 512) as u64
 }
 
+// No `From`: a cell has to fit.
+#[tactic(auto, unfolding(ledger::specs::Store::entry_of, ledger::specs::Store::count_and_origin))]
 pub fn entry_of(cell: Cell) -> u64
     requires { FitsEntry (cell_meant cell) }
     ensures { result ≡ entry_of (cell_meant cell) }
 {
-    let flag = cell.flag;
-    let number = number_of(flag);
+    let number = cell.flag.number();
     let above = 4194304 * remainder_bits(cell.remainder) + 4294967296 * cell.value;
     if number == 0 {
         return above;

@@ -11,19 +11,14 @@ pub fn lower_half(entry: u64) -> u32
     (entry % 4294967296) as u32
 }
 
+// 1 or 0 and no bool, here and below: a row's are summed.
 #[tactic(auto, unfolding(ledger::specs::Store::cell_of_entry, ledger::specs::Store::flag_number_of))]
 pub fn fresh_in(half: u32) -> u32
     ensures value { result ≡ is_fresh (cell_of_entry half).flag }
     ensures upper_bound { result ≤ 1 }
 {
     let flag = half % 4;
-    if flag == 1 {
-        return 1;
-    }
-    if flag == 2 {
-        return 1;
-    }
-    0
+    u32::from(flag == 1 || flag == 2)
 }
 
 #[tactic(auto, unfolding(ledger::specs::Store::cell_of_entry, ledger::specs::Store::flag_number_of))]
@@ -31,13 +26,11 @@ pub fn blank_in(half: u32) -> u32
     ensures value { result ≡ is_blank (cell_of_entry half).flag }
     ensures upper_bound { result ≤ 1 }
 {
-    if half % 4 == 0 {
-        return 1;
-    }
-    0
+    u32::from(half % 4 == 0)
 }
 
 // An N cell has no origin, which counts as the highest.
+#[tactic(auto, using(crate::proofs::DayLaws::no_origin, crate::proofs::DayLaws::shape_origin))]
 pub fn origin_in(half: u32) -> u32
     ensures { result ≡ origin_of (cell_of_entry half) }
 {

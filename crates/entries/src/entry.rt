@@ -7,7 +7,7 @@ use crate::cell::{Cell, cell_of_entry, entry_of};
 // The entry of the blank cell, as a constant.
 pub const BLANK_ENTRY: u64 = 2147483648;
 
-#[tactic(auto, unfolding(ledger::specs::Calls::carried_entry))]
+#[tactic(auto, using(ledger::proofs::Entries::read_fits, ledger::proofs::Entries::carried_fits), unfolding(ledger::specs::Calls::carried_entry))]
 pub fn carried_entry(entry: u64) -> u64
     ensures { result ≡ carried_entry entry }
 {
@@ -22,14 +22,15 @@ pub fn is_own(entry: u64) -> bool
 }
 
 // A date not run counts as blank.
-#[tactic(auto, unfolding(ledger::specs::Calls::compared_entry))]
+#[tactic(auto, using(ledger::proofs::Entries::blank_fits), unfolding(ledger::specs::Calls::compared_entry))]
 pub fn compared_entry(entry: u64) -> u64
     ensures { result ≡ compared_entry entry }
 {
     if entry == 0 {
-        return entry_of(Cell::blank());
+        entry_of(Cell::blank())
+    } else {
+        entry
     }
-    entry
 }
 
 // 1 where the cell moved: an entry holds all five fields, so that two cells are alike where their entries are.
@@ -37,8 +38,5 @@ pub fn compared_entry(entry: u64) -> u64
 pub fn moved_entry(a: u64, b: u64) -> u64
     ensures { result ≡ moved_entry a b }
 {
-    if a == b {
-        return 0;
-    }
-    1
+    u64::from(a != b)
 }

@@ -5,6 +5,8 @@ use Rattle.ledger.specs.Opening.{Opening}
 use Rattle.ledger.specs.Ledger.{Answer, refused, accepted, moved, totals_are, cell_is, net_is, band_is, filled_are, coverage_is, row_is, left}
 use Rattle.ledger.specs.Calls.{opening_verdict, opened_settings, opened_meters, opened_readings, opened_cells, opened_days, overwritten}
 use Rattle.ledger.specs.Engine.{Every}
+use Rattle.store.specs.declared.outcome.Net.{Net}
+use Rattle.store.specs.declared.outcome.Band.{Band}
 use Rattle.fields.specs.declared.numbers.Numbers.{Numbers}
 
 -- the number returned: that of a refusal, 0 for accepted
@@ -89,6 +91,13 @@ FieldsFit (band_is b) = Fits b.written × Fits b.found
 FieldsFit (filled_are v) = Unit {0}
 FieldsFit (coverage_is c) = Every Fits (coverage_fields c)
 FieldsFit (row_is r) = Unit {0}
+
+-- a net and a band as answers without the lists that the call wrote, which no number names
+abbrev pub net_alone : Net → Answer
+net_alone n = net_is (record { tot = n.tot; tot7 = n.tot7; periods = []; marks = [] })
+
+abbrev pub band_alone : Band → Answer
+band_alone b = band_is (record { written = b.written; found = b.found; dates = [] })
 
 -- the fields stand at the front of the array
 pub record AsNumbers (given : Answer) (r : Numbers) : Type 0 where

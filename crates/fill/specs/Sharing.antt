@@ -1,9 +1,10 @@
 -- The advance divided among the periods of a date, and the Wh left over handed out.
 use Rattle.std.specs.Prelude.{ℕ, suc, ◌+◌, ◌-◌, ◌≤◌, ◌<◌, ◌≡◌, ◌&&◌, ◌||◌, cond, List, eqb, ltb, length, get_or}
 use Rattle.metering.specs.Sum.{sum_below}
-use Rattle.ledger.specs.Table.{filling}
+use Rattle.ledger.specs.Table.{tabulate}
 use Rattle.ledger.specs.Fill.{weight_by, whole_part, remainder_of, left_over}
 use Rattle.ledger.specs.Threshold.{reaching, equal_to}
+use Rattle.fill.specs.declared.division.Part.{Part}
 use Rattle.store.specs.declared.column.Column.{Column}
 use Rattle.store.specs.Column.{Reaches}
 use Rattle.store.specs.Column.{value_after}
@@ -11,6 +12,22 @@ use Rattle.store.specs.Column.{value_after}
 -- what the period after k others counts for
 abbrev pub weight_in : Column → List ℕ → ℕ → List ℕ → ℕ → ℕ
 weight_in column cells d marks = weight_by marks (value_after column cells d)
+
+-- ---- parts of an advance
+
+-- past the end of a list
+abbrev pub no_part : Part
+no_part = record { whole = 0; remainder = 0 }
+
+abbrev pub whole_in : List Part → ℕ → ℕ
+whole_in parts k = (get_or parts k no_part).whole
+
+abbrev pub remainder_in : List Part → ℕ → ℕ
+remainder_in parts k = (get_or parts k no_part).remainder
+
+-- what the division gives the period after k others
+abbrev pub part_of : ℕ → (ℕ → ℕ) → ℕ → ℕ → Part
+part_of periods weight advance k = record { whole = whole_part periods weight advance k; remainder = remainder_of periods weight advance k }
 
 -- ---- before a division: `sum` is that of the weights, 96 of 32 bits at most, and an advance has 32 bits
 
@@ -22,16 +39,14 @@ pub record MayShare (cells : List ℕ) (column : Column) (d : ℕ) (marks : List
   pub low : sum ≤ 412316860320
   pub small : advance ≤ 4294967295
 
-pub record MayDivide (cells : List ℕ) (column : Column) (d : ℕ) (marks : List ℕ) (sum advance : ℕ) (parts remainders : List ℕ) : Type 0 where
+pub record MayDivide (cells : List ℕ) (column : Column) (d : ℕ) (marks : List ℕ) (sum advance : ℕ) (parts : List Part) : Type 0 where
   pub shares : MayShare cells column d marks sum advance
-  pub parts_long : length parts ≡ 96
-  pub remainders_long : length remainders ≡ 96
+  pub long : length parts ≡ column.periods
 
 -- ---- after it
 
-pub record Divided (periods : ℕ) (weight : ℕ → ℕ) (advance : ℕ) (parts parts' remainders remainders' : List ℕ) (left : ℕ) : Type 0 where
-  pub parts_are : parts' ≡ filling periods (whole_part periods weight advance) parts
-  pub remainders_are : remainders' ≡ filling periods (remainder_of periods weight advance) remainders
+pub record Divided (periods : ℕ) (weight : ℕ → ℕ) (advance : ℕ) (parts : List Part) (left : ℕ) : Type 0 where
+  pub parts_are : parts ≡ tabulate periods (part_of periods weight advance)
   pub left_is : left ≡ left_over periods weight advance
 
 -- ---- the threshold
@@ -42,23 +57,19 @@ pub record Tells (n : ℕ) (remainder : ℕ → ℕ) (left most t : ℕ) : Type 
   pub within : left ≤ reaching n remainder t
   pub low : t ≤ most
 
-pub record MaySearch (remainders : List ℕ) (periods most left : ℕ) : Type 0 where
-  pub few : periods ≤ 96
-  pub long : length remainders ≡ 96
-  pub none_above : reaching periods (λ k. get_or remainders k 0) (suc most) ≤ left
-  pub enough : left ≤ periods
+pub record MaySearch (parts : List Part) (most left : ℕ) : Type 0 where
+  pub few : length parts ≤ 96
+  pub none_above : reaching (length parts) (remainder_in parts) (suc most) ≤ left
+  pub enough : left ≤ length parts
   pub low : most ≤ 412316860320
 
 -- ---- what the period after k others gets, where `spare` of the remainders equal to the threshold get one
 
-abbrev pub handed_out : List ℕ → List ℕ → ℕ → ℕ → ℕ → ℕ
-handed_out parts remainders t spare k =
-    get_or parts k 0
-    + cond (ltb t (get_or remainders k 0) || (eqb (get_or remainders k 0) t && ltb 0 (spare - equal_to k (λ i. get_or remainders i 0) t))) 1 0
+abbrev pub handed_out : List Part → ℕ → ℕ → ℕ → ℕ
+handed_out parts t spare k =
+    whole_in parts k
+    + cond (ltb t (remainder_in parts k) || (eqb (remainder_in parts k) t && ltb 0 (spare - equal_to k (remainder_in parts) t))) 1 0
 
-pub record MayHandOut (parts remainders : List ℕ) (periods filled : ℕ) : Type 0 where
-  pub few : periods ≤ 96
-  pub parts_long : length parts ≡ 96
-  pub remainders_long : length remainders ≡ 96
-  pub small : (k : ℕ) → k < periods → get_or parts k 0 ≤ 4294967295
-  pub room : periods ≤ filled
+pub record MayHandOut (parts : List Part) (filled : ℕ) : Type 0 where
+  pub small : (k : ℕ) → k < length parts → whole_in parts k ≤ 4294967295
+  pub room : length parts ≤ filled

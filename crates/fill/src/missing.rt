@@ -3,9 +3,11 @@ ghost use Rattle.std.specs.Prelude.{◌<◌, ◌≤◌, ◌≡◌, cond, eqb, le
 ghost use Rattle.store.specs.Column.{Reaches};
 ghost use Rattle.entries.specs.Sums.{Figure, Summed};
 ghost use Rattle.store.specs.Column.{value_after};
+ghost use Rattle.store.specs.Outcome.{failed_number};
 ghost use Rattle.fill.specs.Sharing.{weight_in};
 
 use store::column::{Column, cell_at};
+use store::refusal::Check;
 
 // The value of the period that comes after `k` others where its mark says that it is missing, else 0.
 pub fn weight(cells: &[u64], column: Column, date: u64, k: u64, mark: u8) -> u64
@@ -23,22 +25,19 @@ pub fn missing_sum(cells: &[u64], column: Column, date: u64, missing: &[u8]) -> 
     requires { Reaches cells.now column date × (column.periods ≤ length missing.now) }
     ensures { Summed column.periods 4294967295 (weight_in column cells.now date missing.now) result }
 {
-    let periods = column.periods;
-    let mut sum: u64 = 0;
-    let mut k: u64 = 0;
-    while k < periods {
+    let mut sum = 0;
+    for k in 0..column.periods {
         sum += weight(cells, column, date, k, missing[k as usize]);
-        k += 1;
     }
     sum
 }
 
 // 17, by that sum: nothing is missing, or the values sum to 0.
-pub fn sum_number(sum: u64) -> u64
-    ensures { result ≡ cond (eqb sum 0) 17 0 }
+pub fn check_sum(sum: u64) -> Result<(), Check>
+    ensures { failed_number result ≡ cond (eqb sum 0) 17 0 }
 {
     if sum == 0 {
-        return 17;
+        return Err(Check::NoShape);
     }
-    0
+    Ok(())
 }

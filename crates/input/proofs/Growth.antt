@@ -144,10 +144,10 @@ module _ (xs ys : List ℕ) where
 -- ---- a cut command is shorter than 2,056 bytes, which the longest has
 
 no_cut : {P : Type 0} {k : ℕ} → Whole k ≡ Cut → P
-no_cut e = let z : ◌≡◌ {A = ℕ} 0 1 = cc in absurd (omega arith)
+no_cut e = cc
 
 pub bad_no_cut : {P : Type 0} → Bad ≡ Cut → P
-bad_no_cut e = let z : ◌≡◌ {A = ℕ} 0 1 = cc in absurd (omega arith)
+bad_no_cut e = cc
 
 records_short : (n : ℕ) (b : List ℕ) (at : ℕ) → records_extent n b at ≡ Cut → length b < at + 8 * n
 records_short zero b at e =

@@ -28,15 +28,13 @@ use Rattle.ledger.proofs.Open.{sizes_valid_lem}
 use Rattle.ledger.proofs.Choices.{check_passed, accepted_run, accepted_preview}
 use Rattle.ledger.proofs.Chosen.{chosen_few}
 use Rattle.entries.proofs.RowLaws.{differing_le}
-use Rattle.store.specs.declared.outcome.Outcome.{Outcome}
-use Rattle.store.specs.declared.outcome.Outcome.TheVariants as outcome
-use Rattle.store.specs.declared.outcome.NetOutcome.{NetOutcome}
-use Rattle.store.specs.declared.outcome.NetOutcome.TheVariants as net
-use Rattle.store.specs.declared.outcome.BandOutcome.{BandOutcome}
-use Rattle.store.specs.declared.outcome.BandOutcome.TheVariants as band
-use Rattle.store.specs.Outcome.{answer_of, net_answer, band_answer, fill_answer}
+use Rattle.std.specs.Prelude.{Result, Ok, Err}
+use Rattle.store.specs.declared.outcome.Net.{Net}
+use Rattle.store.specs.declared.outcome.Band.{Band}
+use Rattle.store.specs.declared.refusal.Refusal.{Refusal}
+use Rattle.store.specs.Outcome.{answered, answer_of, net_answer, band_answer, fill_answer}
 use Rattle.fields.specs.declared.numbers.Numbers.{Numbers}
-use Rattle.fields.specs.Fields.{Fits, FieldsFit, AsNumbers}
+use Rattle.fields.specs.Fields.{Fits, FieldsFit, AsNumbers, net_alone, band_alone}
 
 -- ---- an answer
 
@@ -253,22 +251,28 @@ pub totals_fits : (S K : List ℕ) (d c : ℕ) → FieldsFit (answer (day_verdic
 unfolding day_verdict
 totals_fits S K d c = answer_fits (day_verdict S K d c) (totals_are (totals_for S K d c)) (omega arith) (λ e. totals_low S K d c)
 
--- ---- what fits with some lists for results fits with any
+-- ---- numbers name no list that a call wrote
 
-pub any_lists : (r : NetOutcome) (P : ℕ) (numbers : List ℤ) (marks : List ℕ) {given : Answer} → net_answer P r numbers marks ≡ given → FieldsFit given →
-    (P' : ℕ) (numbers' : List ℤ) (marks' : List ℕ) → FieldsFit (net_answer P' r numbers' marks')
-any_lists (net.Net n) P numbers marks e fit P' numbers' marks' = tt
-any_lists (net.Refused number place) P numbers marks e fit P' numbers' marks' = rw (← e) at fit
+pub net_alone_fits : (r : Result Net Refusal) (P : ℕ) (numbers : List ℤ) (marks : List ℕ) {given : Answer} → net_answer P r numbers marks ≡ given → FieldsFit given → FieldsFit (answered net_alone r)
+net_alone_fits (Ok n) P numbers marks e fit = tt
+net_alone_fits (Err refusal) P numbers marks e fit = rw (← e) at fit
 
-pub any_dates : (r : BandOutcome) (dates : List ℕ) {given : Answer} → band_answer r dates ≡ given → FieldsFit given → (dates' : List ℕ) → FieldsFit (band_answer r dates')
-any_dates (band.Band b) dates e fit dates' = rw (← e) at fit
-any_dates (band.Refused number place) dates e fit dates' = rw (← e) at fit
+pub net_apart : (r : Result Net Refusal) (P : ℕ) (lists : List ℤ) (marks : List ℕ) {numbers : Numbers} → AsNumbers (answered net_alone r) numbers → AsNumbers (net_answer P r lists marks) numbers
+net_apart (Ok n) P lists marks a = record { number_is = a.number_is; fields_are = a.fields_are; few = a.few; long = a.long }
+net_apart (Err refusal) P lists marks a = a
 
--- a fill's outcome names no values
-pub no_values : (r : Outcome) (P : ℕ) (filled : List ℕ) {given : Answer} → fill_answer P r filled ≡ given → FieldsFit given → FieldsFit (answer_of r)
-no_values outcome.Accepted P filled e fit = tt
-no_values (outcome.Refused number place) P filled e fit = rw (← e) at fit
+pub band_alone_fits : (r : Result Band Refusal) (dates : List ℕ) {given : Answer} → band_answer r dates ≡ given → FieldsFit given → FieldsFit (answered band_alone r)
+band_alone_fits (Ok b) dates e fit = rw (← e) at fit
+band_alone_fits (Err refusal) dates e fit = rw (← e) at fit
 
-pub values_apart : (r : Outcome) (P : ℕ) (filled : List ℕ) {numbers : Numbers} → AsNumbers (answer_of r) numbers → AsNumbers (fill_answer P r filled) numbers
-values_apart outcome.Accepted P filled a = record { number_is = a.number_is; fields_are = a.fields_are; few = a.few; long = a.long }
-values_apart (outcome.Refused number place) P filled a = a
+pub band_apart : (r : Result Band Refusal) (dates : List ℕ) {numbers : Numbers} → AsNumbers (answered band_alone r) numbers → AsNumbers (band_answer r dates) numbers
+band_apart (Ok b) dates a = record { number_is = a.number_is; fields_are = a.fields_are; few = a.few; long = a.long }
+band_apart (Err refusal) dates a = a
+
+pub no_values : {A : Type 0} (r : Result A Refusal) (P : ℕ) (filled : List ℕ) {given : Answer} → fill_answer P r filled ≡ given → FieldsFit given → FieldsFit (answer_of r)
+no_values (Ok x) P filled e fit = tt
+no_values (Err refusal) P filled e fit = rw (← e) at fit
+
+pub values_apart : {A : Type 0} (r : Result A Refusal) (P : ℕ) (filled : List ℕ) {numbers : Numbers} → AsNumbers (answer_of r) numbers → AsNumbers (fill_answer P r filled) numbers
+values_apart (Ok x) P filled a = record { number_is = a.number_is; fields_are = a.fields_are; few = a.few; long = a.long }
+values_apart (Err refusal) P filled a = a

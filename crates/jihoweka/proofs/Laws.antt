@@ -4,8 +4,12 @@ use mathlib.Core.Path.{◌≡◌, ap, ◌∙◌}
 use mathlib.Core.List.{List}
 use lib.IntN.{ℤ}
 use lib.ListN.{length, take}
-use borrow.Author.Tests.{lt-ltb, le-ltb}
-use Rattle.ledger.specs.Ledger.{Answer}
+use lib.Dec.{eqb}
+use borrow.Table.Steps.{cases}
+use borrow.Author.Tests.{lt-ltb, le-ltb, eqb-true, eqb-false}
+use Rattle.ledger.specs.Method.{Cell}
+use Rattle.ledger.specs.Checks.{Verdict}
+use Rattle.ledger.specs.Ledger.{Answer, answer, refused, row_is}
 use Rattle.ledger.specs.Calls.{overwritten}
 use Rattle.fields.specs.declared.numbers.Numbers.{Numbers}
 use Rattle.fields.specs.Fields.{number_of, fields_of, Returned, unless_short, AsNumbers}
@@ -28,3 +32,17 @@ module _ (list : List ℤ) where
 
     pub long_left : {A : Type 0} (before : List A) {after given : List A} → given ≡ after → given ≡ unless_short list before after
     long_left before e = rw (le-ltb (length list) 11 long) e
+
+-- what the answer to a row says of its verdict
+module _ (v : Verdict) (y : List Cell) where
+  pub row_given : {x : List Cell} → row_is x ≡ answer v (row_is y) → v.number ≡ 0
+  unfolding answer
+  row_given {x} e =
+      cases (eqb v.number 0) (λ t. eqb-true _ _ t) (λ t. let z : row_is x ≡ refused v.number v.place = rw t at e in cc)
+
+  pub row_refused : {n p : ℕ} → refused n p ≡ answer v (row_is y) → (n ≡ v.number) × (v.number ≡ 0 → ⊥)
+  unfolding answer
+  row_refused {n} {p} e =
+      cases (eqb v.number 0)
+      (λ t. let z : refused n p ≡ row_is y = rw t at e in cc)
+      (λ t. let z : refused n p ≡ refused v.number v.place = rw t at e in (cc, eqb-false _ _ t))

@@ -15,10 +15,8 @@ ghost use Rattle.band.specs.Search.{band_call};
 ghost use Rattle.fill.specs.Asked.{fill_call};
 ghost use Rattle.fields.specs.Fields.{Returned, unless_short, OpeningLeaves};
 
-use engine::{CellOutcome, OpeningTerms};
-use fields::numbers::{
-    of_band, of_cell, of_coverage, of_net, of_outcome, of_run, of_totals, put_fields,
-};
+use engine::OpeningTerms;
+use fields::numbers::{Fields, numbers_of, put_fields};
 
 // How many entries the list has at least: the most fields that an answer has.
 const FIELDS: usize = 11;
@@ -60,7 +58,7 @@ pub extern "C" fn jihoweka_open(
         category_records,
         day_types,
     );
-    put_fields(fields, of_outcome(outcome))
+    put_fields(fields, numbers_of(outcome))
 }
 
 #[unsafe(no_mangle)]
@@ -86,7 +84,7 @@ pub extern "C" fn jihoweka_register(
     let outcome = engine::register(
         settings, meters, readings, mpan, date, minute, category, sender, status, limit,
     );
-    put_fields(fields, of_outcome(outcome))
+    put_fields(fields, numbers_of(outcome))
 }
 
 #[unsafe(no_mangle)]
@@ -111,7 +109,7 @@ pub extern "C" fn jihoweka_receive(
     let outcome = engine::receive(
         settings, meters, readings, sender, mpan, date, duration, quantity, body,
     );
-    put_fields(fields, of_outcome(outcome))
+    put_fields(fields, numbers_of(outcome))
 }
 
 #[unsafe(no_mangle)]
@@ -132,7 +130,7 @@ pub extern "C" fn jihoweka_run(
         return SHORT;
     }
     let outcome = engine::run(settings, meters, readings, cells, days, date);
-    put_fields(fields, of_run(outcome))
+    put_fields(fields, numbers_of(outcome))
 }
 
 #[unsafe(no_mangle)]
@@ -153,7 +151,7 @@ pub extern "C" fn jihoweka_preview(
         return SHORT;
     }
     let outcome = engine::preview(settings, meters, readings, cells, days, draft, date);
-    put_fields(fields, of_run(outcome))
+    put_fields(fields, numbers_of(outcome))
 }
 
 #[unsafe(no_mangle)]
@@ -170,7 +168,7 @@ pub extern "C" fn jihoweka_read_totals(
         return SHORT;
     }
     let outcome = engine::read_totals(settings, days, date, category);
-    put_fields(fields, of_totals(outcome))
+    put_fields(fields, numbers_of(outcome))
 }
 
 #[unsafe(no_mangle)]
@@ -188,7 +186,7 @@ pub extern "C" fn jihoweka_read_cell(
         return SHORT;
     }
     let outcome = engine::read_cell(settings, cells, date, category, period);
-    put_fields(fields, of_cell(outcome))
+    put_fields(fields, numbers_of(outcome))
 }
 
 // `from_draft` is a switch: 0 names the published cells, any other number the draft. A reference cannot be returned to C: the length is, and the
@@ -206,8 +204,16 @@ pub extern "C" fn jihoweka_read_row<'a>(
     ensures value { result ≡ length (left (row_verdict settings.now cells.now draft.now (row_call date category from_draft draft.now)) [] (row_for settings.now cells.now draft.now (row_call date category from_draft draft.now))) }
     ensures number_after { number.new ≡ (row_verdict settings.now cells.now draft.now (row_call date category from_draft draft.now)).number }
 {
-    let row = engine::read_row(settings, cells, draft, date, category, from_draft, number);
-    row.len() as u64
+    match engine::read_row(settings, cells, draft, date, category, from_draft) {
+        Ok(row) => {
+            *number = 0;
+            row.len() as u64
+        }
+        Err(refusal) => {
+            *number = refusal.check.number();
+            0
+        }
+    }
 }
 
 // The cell of an entry of a row.
@@ -218,11 +224,12 @@ pub extern "C" fn jihoweka_read_entry(entry: u64, fields: &mut [i64]) -> u64
     if fields.len() < FIELDS {
         return SHORT;
     }
-    let outcome = CellOutcome::Cell(engine::cell_of_entry(entry));
-    put_fields(fields, of_cell(outcome))
+    let cell = engine::cell_of_entry(entry);
+    put_fields(fields, cell.numbers())
 }
 
 // `all_groups` is a switch: 0 nets the own group, any other number all groups.
+#[tactic(auto, using(crate::proofs::Fit::net_apart))]
 #[unsafe(no_mangle)]
 pub extern "C" fn jihoweka_read_net(
     settings: &[u8],
@@ -252,9 +259,10 @@ pub extern "C" fn jihoweka_read_net(
         numbers,
         marks,
     );
-    put_fields(fields, of_net(outcome))
+    put_fields(fields, numbers_of(outcome))
 }
 
+#[tactic(auto, using(crate::proofs::Fit::band_apart))]
 #[unsafe(no_mangle)]
 pub extern "C" fn jihoweka_search_band(
     settings: &[u8],
@@ -273,9 +281,10 @@ pub extern "C" fn jihoweka_search_band(
         return SHORT;
     }
     let outcome = engine::search_band(settings, days, category, day_type, least, most, dates);
-    put_fields(fields, of_band(outcome))
+    put_fields(fields, numbers_of(outcome))
 }
 
+#[tactic(auto, using(crate::proofs::Fit::values_apart))]
 #[unsafe(no_mangle)]
 pub extern "C" fn jihoweka_fill(
     settings: &[u8],
@@ -294,9 +303,10 @@ pub extern "C" fn jihoweka_fill(
         return SHORT;
     }
     let outcome = engine::fill(settings, cells, date, category, advance, missing, filled);
-    put_fields(fields, of_outcome(outcome))
+    put_fields(fields, numbers_of(outcome))
 }
 
+#[tactic(auto, using(crate::proofs::Fit::values_apart))]
 #[unsafe(no_mangle)]
 pub extern "C" fn jihoweka_fill_opted_out(
     settings: &[u8],
@@ -319,7 +329,7 @@ pub extern "C" fn jihoweka_fill_opted_out(
     let outcome = engine::fill_opted_out(
         settings, cells, date, group, quantity, connection, advance, missing, filled,
     );
-    put_fields(fields, of_outcome(outcome))
+    put_fields(fields, numbers_of(outcome))
 }
 
 #[unsafe(no_mangle)]
@@ -336,5 +346,5 @@ pub extern "C" fn jihoweka_read_coverage(
         return SHORT;
     }
     let outcome = engine::read_coverage(settings, days, date, category);
-    put_fields(fields, of_coverage(outcome))
+    put_fields(fields, numbers_of(outcome))
 }

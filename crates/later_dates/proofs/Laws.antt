@@ -1,27 +1,25 @@
 -- A date's row among the cells, the walk over later dates turn by turn, and the run date before a date: each thing that the code has is brought to the definition's.
-use Prim.Native.Nat.{ℕ, suc, ◌+◌, ◌*◌, ◌-◌, ◌≤◌, ◌<◌, zero-le}
+use Prim.Native.Nat.{ℕ, suc, ◌+◌, ◌*◌, ◌-◌, ◌≤◌, ◌<◌}
 use mathlib.Core.Path.{◌≡◌, refl, sym, ap, ap₂, ◌∙◌}
 use mathlib.Core.Logic.{◌≢◌}
-use mathlib.Core.Bool.{Bool, true, false, true≢false, cond}
+use mathlib.Core.Bool.{Bool, true, false}
 use mathlib.Core.List.{List, [], ◌++◌, append_assoc}
-use mathlib.Core.Option.{Option, none, some}
-use native.Mathlib.Nat.{add-zero}
+use mathlib.Core.Option.{Option, some}
 use native.Mathlib.Numerals.{add-one}
 use native.Mathlib.Omega.{arith}
-use lib.Dec.{eqb}
 use lib.ListN.{length, get_or, take, drop}
 use lib.Seq.{drop-drop, drop_at, take_at, length-take-le}
-use borrow.Author.Tests.{eqb-true, eqb-false, eq-eqb, ne_eqb}
-use Rattle.ledger.specs.Method.{blank}
-use Rattle.ledger.proofs.Ready.{Ready}
-use Rattle.ledger.specs.Store.{categories_of, dates_of, row_length, entry_of}
+use borrow.Author.Tests.{eq-eqb, ne_eqb}
+use Rattle.ledger.proofs.Ready.{Ready, ready, row_bounds}
+use Rattle.ledger.specs.Store.{settings_ready, cells_ready, categories_of, dates_of, row_length}
 use Rattle.ledger.specs.Table.{tabulate, filling}
-use Rattle.ledger.specs.Calls.{row_at, put_row, last_run, inherited_from, differing, carried_entry, kept_days, Published, as_published, Placing, publish, count_only, follows, followed_entry, inherited_beyond, follow_row, inherited_after, moved_in_row, carry_on}
+use Rattle.ledger.specs.Calls.{row_at, put_row, inherited_from, differing, carried_entry, kept_days, Published, as_published, Placing, publish, count_only, follows, followed_entry, inherited_beyond, follow_row, inherited_after, moved_in_row, carry_on}
 use Rattle.ledger.proofs.Walks.{put_same, carry_on_end, carry_on_pass, carry_on_stop, carry_on_go, carry_on_same}
 use Rattle.ledger.proofs.Lists.{length_tabulate, get_d_tabulate, tabulate_ext, part_length, part_at}
 use Rattle.entries.proofs.RowLaws.{filling_below, differing_le, differing_ext, differing_none}
 use Rattle.entries.specs.Row.{spliced}
-use Rattle.later_dates.specs.Walk.{Stepped}
+use Rattle.store.proofs.RowLaws.{row_fits}
+use Rattle.later_dates.specs.Walk.{Followed}
 
 -- ---- a date's row among the cells
 
@@ -42,7 +40,7 @@ module _ (n d at w : ℕ) (cells : List ℕ) (start : at ≡ d * n) (width : w �
   part_is fit = rw (start, width) (part_length cells (d * n) n fit)
 
 -- what was put in a part is read back
-part_spliced : (xs ys : List ℕ) (at w : ℕ) → at ≤ length xs → length ys ≡ w → take w (drop at (spliced xs ys at w)) ≡ ys
+pub part_spliced : (xs ys : List ℕ) (at w : ℕ) → at ≤ length xs → length ys ≡ w → take w (drop at (spliced xs ys at w)) ≡ ys
 part_spliced xs ys at w h long =
     ap (take w) (drop_at (take at xs) (ys ++ drop w (drop at xs)) at (length-take-le at xs h)) ∙ take_at ys (drop w (drop at xs)) w long
 
@@ -58,12 +56,11 @@ published_is s date at w new cells days ys days' start width fit row kept =
     (put_is (row_length s) date at w cells start width ys ∙ ap (λ (xs : List ℕ). put_row (row_length s) date xs cells) row)
     (kept ∙ ap (λ (xs : List ℕ). kept_days s date xs (categories_of s) days) back)
 
--- that lies within, by the start and width that the code has
-pub within : (n d at w : ℕ) {L : ℕ} → at ≡ d * n → w ≡ n → d * n + n ≤ L → at + w ≤ L
-within n d at w start width fit = rw (start, width) fit
-
-pub wide : {n w : ℕ} (xs ys : List ℕ) → w ≡ n → xs ≡ ys → n ≤ length ys → w ≤ length xs
-wide xs ys width same fit = rw (width, same) fit
+-- a date's row lies among the cells
+pub row_there : (s cells : List ℕ) (d : ℕ) → settings_ready s ≡ true → cells_ready s cells ≡ true → d < dates_of s →
+    (d * row_length s + row_length s ≤ length cells) × (row_length s ≤ 6144) × (d < 800)
+row_there s cells d opened long in_range =
+    let known = ready s opened in (row_fits s cells d long in_range, (row_bounds s known).1, omega (arith, in_range, known.dates))
 
 -- ---- a later date's row
 
@@ -117,53 +114,8 @@ moved_le : (n d : ℕ) (cells : List ℕ) (inherited : ℕ → ℕ) → moved_in
 unfolding moved_in_row
 moved_le n d cells inherited = differing_le n (row_at n cells d) (follow_row n cells d inherited)
 
--- ---- a turn of the walk over later dates, for a run and for a count
-
-module _ (place : Placing) (s : List ℕ) (t d : ℕ) (inherited : List ℕ) (p : Published) (in_range : d < dates_of s) where
-  one : dates_of s - d ≡ suc (dates_of s - suc d)
-  one = omega arith
-
-  -- a date that does not follow
-  pub step_skip : follows s t p.cells d ≡ false → Stepped place s t d inherited p inherited p 0 false
-  step_skip test =
-      record {
-        stops = λ e m. absurd (true≢false (sym e));
-        goes = λ e m. rw (add-one d, one, add-zero m) (carry_on_pass place s t (dates_of s - suc d) (λ k. get_or inherited k 0) d p m test);
-        few = zero-le;
-      }
-
-  -- one that does: where nothing moves all stays, else its row is placed
-  step_follow : follows s t p.cells d ≡ true → row_length s ≤ 6144 → (inherited' : List ℕ) (p' : Published) (more : ℕ) →
-      (more ≡ 0 → p ≡ p') →
-      (more ≢ 0 → place s d (tabulate (row_length s) (follow_row (row_length s) p.cells d (λ k. get_or inherited k 0))) p ≡ p') →
-      ((k : ℕ) → k < row_length s → get_or inherited' k 0 ≡ inherited_after (row_length s) p.cells d (λ j. get_or inherited j 0) k) →
-      more ≡ moved_in_row (row_length s) p.cells d (λ k. get_or inherited k 0) → Stepped place s t d inherited p inherited' p' more (eqb more 0)
-  step_follow test small inherited' p' more stays placed after is =
-      record {
-        stops =
-            λ e m.
-            let none_moved : more ≡ 0 = eqb-true more 0 e in
-            rw one (carry_on_stop place s t (dates_of s - suc d) (λ k. get_or inherited k 0) d p m test (eq-eqb _ _ (sym is ∙ none_moved)))
-            ∙ ap (λ (x : Published). record { published = x; moved = m }) (stays none_moved);
-        goes =
-            λ e m.
-            let some_moved : more ≢ 0 = eqb-false more 0 e in
-            rw (add-one d, one)
-            (carry_on_go place s t (dates_of s - suc d) (λ k. get_or inherited k 0) d p m test (ne_eqb _ _ (λ z. some_moved (is ∙ z)))
-            ∙ carry_on_same place s t (dates_of s - suc d) (inherited_after (row_length s) p.cells d (λ k. get_or inherited k 0)) (λ k. get_or inherited' k 0) (suc d) _ _ (λ j l. sym (after j l))
-            ∙ ap₂ (λ (x : Published) (n : ℕ). carry_on place s t (dates_of s - suc d) (λ k. get_or inherited' k 0) (suc d) x (m + n)) (placed some_moved) (sym is));
-        few = rw is (omega (arith, moved_le (row_length s) d p.cells (λ k. get_or inherited k 0)));
-      }
-
--- as the code answers it
-pub stepped_as : {place : Placing} {s : List ℕ} {t d : ℕ} {inherited inherited' : List ℕ} {p p' : Published} {more more' : ℕ} {stop stop' : Bool} →
-    Stepped place s t d inherited p inherited' p' more stop → more' ≡ more → stop' ≡ stop →
-    Stepped place s t d inherited p inherited' p' more' stop'
-stepped_as step e f = rw (e, f) step
-
--- its part of the cells as the loops over a row leave it: written, or only counted
-module _ (s : List ℕ) (t d : ℕ) (inherited cells : List ℕ) (in_range : d < dates_of s) (test : follows s t cells d ≡ true) (small : row_length s ≤ 6144)
-    (fit : d * row_length s + row_length s ≤ length cells) (at w : ℕ) (start : at ≡ d * row_length s) (width : w ≡ row_length s)
+-- a date's row followed, by the start and width that the code has: written, or only counted
+module _ (s : List ℕ) (d : ℕ) (inherited cells : List ℕ) (fit : d * row_length s + row_length s ≤ length cells) (at w : ℕ) (start : at ≡ d * row_length s) (width : w ≡ row_length s)
     (inherited' : List ℕ) (more : ℕ)
     (after : inherited' ≡ filling (length (take w (drop at cells))) (λ k. inherited_beyond (get_or (take w (drop at cells)) k 0) (get_or inherited k 0)) inherited)
     (is : more ≡ differing (length (take w (drop at cells))) (λ k. get_or (take w (drop at cells)) k 0) (λ k. followed_entry (get_or (take w (drop at cells)) k 0) (get_or inherited k 0))) where
@@ -178,34 +130,39 @@ module _ (s : List ℕ) (t d : ℕ) (inherited cells : List ℕ) (in_range : d <
     written = follow_gives (row_length s) d at w cells inherited start width fit ys row
 
     -- nothing moved: the row is as it was, and the days stay
-    pub step_still : more ≡ 0 → Stepped publish s t d inherited (as_published cells days) inherited' (as_published (spliced cells ys at w) days) more (eqb more 0)
-    step_still none_moved =
-        step_follow publish s t d inherited (as_published cells days) in_range test small inherited' (as_published (spliced cells ys at w) days) more
-        (λ z. ap (λ (xs : List ℕ). as_published xs days) (sym (written ∙ put_unmoved (row_length s) d cells (λ k. get_or inherited k 0) (sym moves ∙ z) fit)))
-        (λ z. absurd (z none_moved))
-        inherits moves
+    pub followed_still : more ≡ 0 → Followed publish s d inherited (as_published cells days) inherited' (as_published (spliced cells ys at w) days) more
+    followed_still none_moved =
+        record {
+          moves = moves;
+          stays = λ z. ap (λ (xs : List ℕ). as_published xs days) (written ∙ put_unmoved (row_length s) d cells (λ k. get_or inherited k 0) (sym moves ∙ none_moved) fit);
+          places = λ z. absurd (z none_moved);
+          inherits = inherits;
+        }
 
     -- else the days are kept from the row that was written
-    pub step_written : more ≢ 0 → (days' : List ℕ) → days' ≡ kept_days s d (take w (drop at (spliced cells ys at w))) (categories_of s) days →
-        Stepped publish s t d inherited (as_published cells days) inherited' (as_published (spliced cells ys at w) days') more (eqb more 0)
-    step_written some_moved days' kept =
-        step_follow publish s t d inherited (as_published cells days) in_range test small inherited' (as_published (spliced cells ys at w) days') more
-        (λ z. absurd (some_moved z))
-        (λ z. sym (published_is s d at w (follow_row (row_length s) cells d (λ k. get_or inherited k 0)) cells days ys days' start width fit (follow_row_lem (row_length s) d at w cells inherited start width fit ys row) kept))
-        inherits moves
+    pub followed_written : more ≢ 0 → (days' : List ℕ) → days' ≡ kept_days s d (take w (drop at (spliced cells ys at w))) (categories_of s) days →
+        Followed publish s d inherited (as_published cells days) inherited' (as_published (spliced cells ys at w) days') more
+    followed_written some_moved days' kept =
+        record {
+          moves = moves;
+          stays = λ z. absurd (some_moved z);
+          places = λ z. published_is s d at w (follow_row (row_length s) cells d (λ k. get_or inherited k 0)) cells days ys days' start width fit (follow_row_lem (row_length s) d at w cells inherited start width fit ys row) kept;
+          inherits = inherits;
+        }
 
-  step_counted : Stepped count_only s t d inherited (as_published cells []) inherited' (as_published cells []) more (eqb more 0)
-  step_counted = step_follow count_only s t d inherited (as_published cells []) in_range test small inherited' (as_published cells []) more (λ z. refl) (λ z. refl) inherits moves
+  followed_counted : Followed count_only s d inherited (as_published cells []) inherited' (as_published cells []) more
+  followed_counted = record { moves = moves; stays = λ z. refl; places = λ z. refl; inherits = inherits }
 
--- counted in a copy of that part
-pub step_copied : (s : List ℕ) (t d : ℕ) (inherited cells : List ℕ) → d < dates_of s → follows s t cells d ≡ true → row_length s ≤ 6144 →
-    d * row_length s + row_length s ≤ length cells → (at w : ℕ) → at ≡ d * row_length s → w ≡ row_length s →
-    (copy : List ℕ) → copy ≡ take w (drop at cells) → (inherited' : List ℕ) (more : ℕ) →
+-- counted in a copy of the row
+pub followed_copy : (s : List ℕ) (d : ℕ) (inherited cells : List ℕ) → d * row_length s + row_length s ≤ length cells →
+    (copy : List ℕ) → copy ≡ take (row_length s) (drop (d * row_length s) cells) → (inherited' : List ℕ) (more : ℕ) →
     inherited' ≡ filling (length copy) (λ k. inherited_beyond (get_or copy k 0) (get_or inherited k 0)) inherited →
     more ≡ differing (length copy) (λ k. get_or copy k 0) (λ k. followed_entry (get_or copy k 0) (get_or inherited k 0)) →
-    Stepped count_only s t d inherited (as_published cells []) inherited' (as_published cells []) more (eqb more 0)
-step_copied s t d inherited cells in_range test small fit at w start width copy is inherited' more after counts =
-    step_counted s t d inherited cells in_range test small fit at w start width inherited' more (rw is at after) (rw is at counts)
+    Followed count_only s d inherited (as_published cells []) inherited' (as_published cells []) more
+followed_copy s d inherited cells fit copy is inherited' more after counts =
+    followed_counted s d inherited cells fit (d * row_length s) (row_length s) refl refl inherited' more (rw is at after) (rw is at counts)
+
+-- ---- the walk over later dates, for a run and for a count
 
 -- the walk has come to date d: what is left of it gives what the whole gives
 pub record Walked (place : Placing) (s : List ℕ) (t first moved : ℕ) (inherited₀ : List ℕ) (p₀ : Published) (inherited : List ℕ) (p : Published) (total d : ℕ) : Type 0 where
@@ -215,10 +172,6 @@ pub record Walked (place : Placing) (s : List ℕ) (t first moved : ℕ) (inheri
       carry_on place s t (dates_of s - d) (λ k. get_or inherited k 0) d p total
       ≡ carry_on place s t (dates_of s - first) (λ k. get_or inherited₀ k 0) first p₀ moved
 
-pub walk_start : (place : Placing) (s : List ℕ) (t first moved : ℕ) (inherited : List ℕ) (p : Published) → first ≤ dates_of s → moved ≤ 6144 →
-    Walked place s t first moved inherited p inherited p moved first
-walk_start place s t first moved inherited p h few = record { reached = h; few = omega arith; same = refl }
-
 module _ (place : Placing) (s : List ℕ) (t first moved : ℕ) (inherited₀ : List ℕ) (p₀ : Published) (inherited : List ℕ) (p : Published) (total d : ℕ)
     (so_far : Walked place s t first moved inherited₀ p₀ inherited p total d) where
   pub walk_end : dates_of s ≤ d → record { published = p; moved = total } ≡ carry_on place s t (dates_of s - first) (λ k. get_or inherited₀ k 0) first p₀ moved
@@ -226,37 +179,52 @@ module _ (place : Placing) (s : List ℕ) (t first moved : ℕ) (inherited₀ : 
       let none_left : dates_of s - d ≡ 0 = omega arith in
       sym (carry_on_end place s t 0 (λ k. get_or inherited k 0) d p total) ∙ rw none_left at so_far.same
 
-  module _ (in_range : d < dates_of s) {inherited' : List ℕ} {p' : Published} {more : ℕ} {stop : Bool} (step : Stepped place s t d inherited p inherited' p' more stop) where
-    pub walk_stop : stop ≡ true → record { published = p'; moved = total } ≡ carry_on place s t (dates_of s - first) (λ k. get_or inherited₀ k 0) first p₀ moved
-    walk_stop e = sym (step.stops e total) ∙ so_far.same
+  module _ (in_range : d < dates_of s) where
+    one : dates_of s - d ≡ suc (dates_of s - suc d)
+    one = omega arith
 
-    pub walk_next : stop ≡ false → Walked place s t first moved inherited₀ p₀ inherited' p' (total + more) (d + 1)
-    walk_next e =
+    -- a date that does not follow is passed over
+    pub walk_pass : {cells : List ℕ} {test : Bool} → cells ≡ p.cells → test ≡ follows s t cells d → test ≡ false → Walked place s t first moved inherited₀ p₀ inherited p total (d + 1)
+    walk_pass same is over =
+        let test : follows s t p.cells d ≡ false = rw (← same) (sym is ∙ over) in
         record {
           reached = omega arith;
-          few = omega (arith, so_far.few, step.few);
-          same = sym (step.goes e total) ∙ so_far.same;
+          few = omega (arith, so_far.few);
+          same = rw (add-one d) (sym (carry_on_pass place s t (dates_of s - suc d) (λ k. get_or inherited k 0) d p total test) ∙ rw one at so_far.same);
         }
 
-    pub walk_room : Ready s → (total + more < 18446744073709551616) × (d + 1 < 18446744073709551616)
-    walk_room known = (omega (arith, so_far.few, step.few, known.dates.1), omega (arith, known.dates.1))
+    -- at one that does, the walk ends where nothing moves, else it goes on
+    module _ {cells : List ℕ} {runs : Bool} (same : cells ≡ p.cells) (is : runs ≡ follows s t cells d) (yes : runs ≡ true) {inherited' : List ℕ} {p' : Published} {more : ℕ} (turn : Followed place s d inherited p inherited' p' more) where
+      test : follows s t p.cells d ≡ true
+      test = rw (← same) (sym is ∙ yes)
+
+      pub walk_stop : more ≡ 0 → record { published = p'; moved = total } ≡ carry_on place s t (dates_of s - first) (λ k. get_or inherited₀ k 0) first p₀ moved
+      walk_stop none_moved =
+          ap (λ (x : Published). record { published = x; moved = total }) (turn.stays none_moved)
+          ∙ sym (carry_on_stop place s t (dates_of s - suc d) (λ k. get_or inherited k 0) d p total test (eq-eqb _ _ (sym turn.moves ∙ none_moved)))
+          ∙ rw one at so_far.same
+
+      few_more : Ready s → more ≤ 6144
+      few_more known = rw turn.moves (omega (arith, moved_le (row_length s) d p.cells (λ k. get_or inherited k 0), row_bounds s known))
+
+      pub walk_on : Ready s → more ≢ 0 → Walked place s t first moved inherited₀ p₀ inherited' p' (total + more) (d + 1)
+      walk_on known some_moved =
+          record {
+            reached = omega arith;
+            few = omega (arith, so_far.few, few_more known);
+            same =
+                sym
+                (rw (add-one d)
+                (carry_on_go place s t (dates_of s - suc d) (λ k. get_or inherited k 0) d p total test (ne_eqb _ _ (λ z. some_moved (turn.moves ∙ z)))
+                ∙ carry_on_same place s t (dates_of s - suc d) (inherited_after (row_length s) p.cells d (λ k. get_or inherited k 0)) (λ k. get_or inherited' k 0) (suc d) _ _ (λ j l. sym (turn.inherits j l))
+                ∙ ap₂ (λ (x : Published) (n : ℕ). carry_on place s t (dates_of s - suc d) (λ k. get_or inherited' k 0) (suc d) x (total + n)) (sym (turn.places some_moved)) (sym turn.moves)))
+                ∙ rw one at so_far.same;
+          }
+
+      pub walk_room : Ready s → total + more < 18446744073709551616
+      walk_room known = omega (arith, so_far.few, few_more known, known.dates.1)
 
 -- ---- the run date before
-
-module _ (s cells : List ℕ) (t : ℕ) where
-  pub last_zero : last_run s cells t 0 ≡ none
-  unfolding last_run
-  last_zero = refl
-
-  last_suc : (d : ℕ) → last_run s cells t (suc d) ≡ cond (follows s t cells d) (some d) (last_run s cells t d)
-  unfolding last_run
-  last_suc d = refl
-
-  pub last_here : (d : ℕ) → 0 < d → follows s t cells (d - 1) ≡ true → last_run s cells t d ≡ some (d - 1)
-  last_here d l test = let one : d ≡ suc (d - 1) = omega arith in ap (last_run s cells t) one ∙ last_suc (d - 1) ∙ rw test
-
-  pub last_next : (d : ℕ) → 0 < d → follows s t cells (d - 1) ≡ false → last_run s cells t d ≡ last_run s cells t (d - 1)
-  last_next d l test = let one : d ≡ suc (d - 1) = omega arith in ap (last_run s cells t) one ∙ last_suc (d - 1) ∙ rw test
 
 -- what a date takes over, from the run date before it or where there is none
 pub taken_from : (n d at w : ℕ) (cells inherited inherited' : List ℕ) (last : Option ℕ) → last ≡ some d → at ≡ d * n → w ≡ n →
@@ -264,6 +232,3 @@ pub taken_from : (n d at w : ℕ) (cells inherited inherited' : List ℕ) (last 
 unfolding row_at
 taken_from n d at w cells inherited inherited' last found start width is k l =
     rw (found, is, start, width) (filling_below (λ j. carried_entry (get_or cells (d * n + j) 0)) inherited n k l)
-
-pub taken_none : (n : ℕ) (cells : List ℕ) (last : Option ℕ) → last ≡ none → (k : ℕ) → inherited_from n cells last k ≡ entry_of blank
-taken_none n cells last None-found k = rw None-found

@@ -1,2 +1,2 @@
--- A turn of the run's walk over later dates.
+-- A date of the run's walk over later dates.
 pub mod Walk

@@ -3,5 +3,6 @@
 
 pub mod count;
 pub mod predecessor;
-mod step;
+pub mod row;
+mod walk;
 pub mod write;

@@ -1,33 +1,30 @@
 // A row copied, what later dates inherit from one, and a later run date's row.
 #![tactic(auto)]
 
-ghost use Rattle.std.specs.Prelude.{◌≡◌, ◌+◌, ◌≤◌, length, get_or};
+ghost use Rattle.std.specs.Prelude.{◌≡◌, ◌≤◌, length, get_or};
 ghost use Rattle.ledger.specs.Table.{tabulate, filling};
 ghost use Rattle.ledger.specs.Calls.{carried_entry, differing, followed_entry, inherited_beyond, overwritten};
 
 use entries::entry;
 
 // The copy is the front of a list that has room for it.
+#[tactic(auto, unfolding(ledger::specs::Calls::overwritten))]
 pub fn copy_row(row: &[u64], copy: &mut [u64])
     requires { length row.now ≤ length copy.old }
     ensures { copy.new ≡ overwritten row.now copy.old }
 {
-    let mut k: usize = 0;
-    while k < row.len() {
-        copy[k] = row[k];
-        k += 1;
+    for (k, entry) in row.iter().enumerate() {
+        copy[k] = *entry;
     }
 }
 
-// What the date after a row takes over from it; the row starts at `at`.
-pub fn carry_row(cells: &[u64], at: usize, row_length: usize, inherited: &mut [u64])
-    requires { (at + row_length ≤ length cells.now) × (row_length ≤ length inherited.old) }
-    ensures { inherited.new ≡ filling row_length (λ k. carried_entry (get_or cells.now (at + k) 0)) inherited.old }
+// What the date after a row takes over from it.
+pub fn carry_row(row: &[u64], inherited: &mut [u64])
+    requires { length row.now ≤ length inherited.old }
+    ensures { inherited.new ≡ filling (length row.now) (λ k. carried_entry (get_or row.now k 0)) inherited.old }
 {
-    let mut k: usize = 0;
-    while k < row_length {
-        inherited[k] = entry::carried_entry(cells[at + k]);
-        k += 1;
+    for (k, entry) in row.iter().enumerate() {
+        inherited[k] = entry::carried_entry(*entry);
     }
 }
 
@@ -60,15 +57,13 @@ pub fn follow_row(row: &mut [u64], inherited: &mut [u64]) -> u64
     ensures value { result ≡ differing (length row.old) (λ k. get_or row.old k 0) (λ k. followed_entry (get_or row.old k 0) (get_or inherited.old k 0)) }
 {
     let mut moved: u64 = 0;
-    let mut k: usize = 0;
-    while k < row.len() {
-        let old = row[k];
+    for (k, entry) in row.iter_mut().enumerate() {
+        let old = *entry;
         let before = inherited[k];
         let new = followed(old, before);
         moved += entry::moved_entry(old, new);
-        row[k] = new;
+        *entry = new;
         inherited[k] = inherited_beyond(old, before);
-        k += 1;
     }
     moved
 }

@@ -1,9 +1,9 @@
 -- Laws of the definitions, for the layers above: what they may use without opening a definition.
 use Rattle.std.specs.Prelude.{ℕ, zero, suc, ◌+◌, ◌*◌, ◌/◌, ◌%◌, ◌-◌, ◌≤◌, ◌<◌, ◌≡◌, refl, ◌↔◌, ◌≢◌, ◌⊎◌, Bool, true, false, not, ◌&&◌, get_or, eqb, leb, ltb, ℤ, pos, neg_ℤ, ◌+ℤ◌, ◌-ℤ◌, ◌≤ℤ◌, ◌<ℤ◌}
-use Rattle.std.proofs.Common.{sym, ap, ◌∙◌, inl, inr, ⊎_elim, div-lt_iff_lt-mul, div-one, div-add-mod', div-mul-le_self, le-div_iff_mul-le, le_trans, add-zero, mul-pos, mul-div_cancel, le_of_mul-le-mul_right, mul-le-mul_left, mul-le-mul_right, mul-lt-mul_of_pos_right, arith, leb→le, le→leb, ltb→lt, lt→ltb, leb-true, le-leb, ltb-true, ltb-false, lt-ltb, le-ltb, eqb-true, eq-eqb, ne_eqb}
+use Rattle.std.proofs.Common.{sym, ap, ◌∙◌, inl, inr, ⊎_elim, div-lt_iff_lt-mul, div-one, div-add-mod', mod-lt, div-mul-le_self, le-div_iff_mul-le, le_trans, add-zero, mul-pos, pos_of_ne-zero, mul-div_cancel, le_of_mul-le-mul_right, mul-le-mul_left, mul-le-mul_right, mul-lt-mul_of_pos_right, arith, leb→le, le→leb, ltb→lt, lt→ltb, leb-true, le-leb, ltb-true, ltb-false, lt-ltb, le-ltb, eqb-true, eq-eqb, ne_eqb}
 use Rattle.std.proofs.Math.Bool.{and-eq-true_iff, and-false}
 use Rattle.std.proofs.Math.Nat.{mul-div-le, lt-mul-div-succ, div-eq_of_lt-le, mul-mod_left}
-use Rattle.std.proofs.Math.IntN.{sub_ℕ, +ℤ_comm, +ℤ-neg_ℤ_cancel, -ℤ-+ℤ_cancel}
+use Rattle.std.proofs.Math.IntN.{sub_ℕ, +ℤ_idr, +ℤ_comm, +ℤ-neg_ℤ_cancel, -ℤ-+ℤ_cancel}
 use Rattle.std.specs.Int.Signed.{mag}
 use borrow.Table.Steps.{cases}
 use Rattle.std.proofs.lemmas.Bool.{lt-leb, not-true, not-false}
@@ -109,6 +109,20 @@ remainder_by s n v e = rw (← e)
 
 pub remainder_is : (s n v a b : ℕ) → v ≡ average s n → a + v * n ≡ s + b → pos a -ℤ pos b ≡ remainder s n
 remainder_is s n v a b value e = minus_is a b ∙ minus_same a b s (v * n) e ∙ sym (remainder_by s n v value ∙ minus_is s (v * n))
+
+-- whole division with what is left, by which half of the count that is in
+pub rounds_down : (s n : ℕ) → 0 < n → s % n < n - s % n → (s / n ≡ average s n) × (pos (s % n) ≡ remainder s n)
+rounds_down s n some low =
+    let whole = div-add-mod' s n in
+    let value = (average_is s n (s / n) some).0 (omega arith) in
+    (value, sym (+ℤ_idr (pos (s % n))) ∙ remainder_is s n (s / n) (s % n) 0 value (omega arith))
+
+pub rounds_up : (s n : ℕ) → 0 < n → n - s % n ≤ s % n → (s / n + 1 ≡ average s n) × (pos 0 -ℤ pos (n - s % n) ≡ remainder s n)
+rounds_up s n some high =
+    let whole = div-add-mod' s n in
+    let less = mod-lt s some in
+    let value = (average_is s n (s / n + 1) some).0 (omega arith) in
+    (value, remainder_is s n (s / n + 1) 0 (n - s % n) value (omega arith))
 
 -- average and remainder are such a pair, and the only one
 pub rounded_is : (s n value : ℕ) (dropped : ℤ) → 0 < n → Rounded s n value dropped ↔ ((value ≡ average s n) × (dropped ≡ remainder s n))
@@ -242,6 +256,10 @@ window_valid_is d start end = (
 
 pub whole_periods : (d minute : ℕ) → minute % d ≡ 0 → minute / d * d ≡ minute
 whole_periods d minute h = sym (add-zero _) ∙ rw h at (div-add-mod' minute d)
+
+-- a minute that ends a period, and is not 0, ends one that counts from 1
+pub period_counts : (d e : ℕ) → e % d ≡ 0 → 0 < e → 0 < e / d
+period_counts d e h some = pos_of_ne-zero (λ none. let all = rw none at (whole_periods d e h) in omega arith)
 
 pub window_periods : (d start end j : ℕ) → 0 < d → window_valid d start end ≡ true → 1 ≤ j →
     (lies_within d start end j ≡ true) ↔ ((start / d + 1 ≤ j) × (j ≤ end / d))

@@ -2,13 +2,14 @@
 ghost use Rattle.std.specs.Prelude.{◌≡◌, ◌*◌, ◌<◌, ◌^◌};
 ghost use Rattle.metering.specs.Average.{average, remainder, annual};
 
-#[derive(Clone, Copy)]
+#[derive(Clone, Copy, Debug, PartialEq, Eq)]
 pub struct Average {
     pub value: u64,
     pub remainder: i64,
 }
 
 // What is left is compared with what it lacks of the count, so that nothing is doubled: right for every sum and count.
+#[tactic(auto, using(crate::proofs::Laws::rounds_down, crate::proofs::Laws::rounds_up))]
 pub fn average_up(sum: u64, count: u64) -> Average
     requires { 0 < count }
     ensures value_value { result.value ≡ average sum count }
@@ -25,7 +26,7 @@ pub fn average_up(sum: u64, count: u64) -> Average
     }
     Average {
         value: whole + 1,
-        remainder: 0 - lacking as i64,
+        remainder: -(lacking as i64),
     }
 }
 

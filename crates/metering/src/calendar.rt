@@ -1,5 +1,5 @@
 // Calendar: periods of a day, the period that a minute closes, and windows of the day.
-ghost use Rattle.std.specs.Prelude.{◌≡◌, ◌⊎◌, ◌<◌};
+ghost use Rattle.std.specs.Prelude.{◌≡◌, ◌⊎◌, ◌<◌, MatchOption};
 ghost use Rattle.metering.specs.Calendar.{duration_known, periods_per_day, period_ending, window_valid, BegunBefore, EndedBy, PeriodsWithin};
 
 #[tactic(auto, unfolding(crate::specs::Calendar::duration_known))]
@@ -17,19 +17,14 @@ pub fn periods_per_day(duration: u64) -> u64
     1440 / duration
 }
 
-// 0 says that the minute closes no period: periods count from 1.
-#[tactic(auto, unfolding(crate::specs::Calendar::period_ending))]
-pub fn period_ending(duration: u64, minute: u64) -> u64
+// The period that a minute closes. Periods count from 1: where the definition is 0 there is none.
+#[tactic(auto, using(crate::proofs::Laws::period_counts), unfolding(crate::specs::Calendar::period_ending))]
+pub fn period_ending(duration: u64, minute: u64) -> Option<u64>
     requires { 0 < duration }
-    ensures { result ≡ period_ending duration minute }
+    ensures { MatchOption result (period_ending duration minute ≡ 0) (λ period. (period ≡ period_ending duration minute) × (0 < period)) }
 {
-    if minute % duration != 0 {
-        return 0;
-    }
-    if 1440 < minute {
-        return 0;
-    }
-    minute / duration
+    let is_end = minute.is_multiple_of(duration) && (1..=1440).contains(&minute);
+    is_end.then_some(minute / duration)
 }
 
 // Whether minutes make a window: both on the grid of the duration, in order, and within the day.
@@ -38,16 +33,7 @@ pub fn window_valid(duration: u64, start: u64, end: u64) -> bool
     requires { 0 < duration }
     ensures { result ≡ window_valid duration start end }
 {
-    if start % duration != 0 {
-        return false;
-    }
-    if end % duration != 0 {
-        return false;
-    }
-    if end <= start {
-        return false;
-    }
-    end <= 1440
+    start.is_multiple_of(duration) && end.is_multiple_of(duration) && start < end && end <= 1440
 }
 
 // How many periods begin before a minute.
@@ -55,26 +41,20 @@ fn begun_before(duration: u64, minute: u64) -> u64
     requires { (duration ≡ 15) ⊎ (duration ≡ 30) }
     ensures { BegunBefore duration minute result }
 {
-    let whole = minute / duration;
-    if minute % duration == 0 {
-        return whole;
-    }
-    whole + 1
+    minute.div_ceil(duration)
 }
 
 // How many periods of a day end by a minute.
+#[tactic(auto, unfolding(crate::specs::Calendar::periods_per_day))]
 fn ended_by(duration: u64, minute: u64) -> u64
     requires { (duration ≡ 15) ⊎ (duration ≡ 30) }
     ensures { EndedBy duration minute result }
 {
-    if 1440 < minute {
-        return 1440 / duration;
-    }
-    minute / duration
+    minute.min(1440) / duration
 }
 
 // Periods that stand side by side: how many come before them, and how many they are.
-#[derive(Clone, Copy)]
+#[derive(Clone, Copy, Debug, PartialEq, Eq)]
 pub struct Stretch {
     pub first: u64,
     pub count: u64,

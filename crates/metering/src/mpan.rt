@@ -11,24 +11,16 @@ fn weighted_sum(mpan: u64) -> u64
 {
     let mut rest = mpan / 10;
     let mut sum: u64 = 0;
-    let mut i: usize = 12;
-    while 0 < i {
-        i -= 1;
-        sum += WEIGHTS[i] * (rest % 10);
-        rest = rest / 10;
+    for weight in WEIGHTS.iter().rev() {
+        sum += weight * (rest % 10);
+        rest /= 10;
     }
     sum
 }
 
-#[tactic(auto, unfolding(crate::specs::Mpan::mpan_valid, crate::specs::Mpan::check_digit))]
+#[tactic(auto, using(crate::proofs::Laws::digit_last), unfolding(crate::specs::Mpan::mpan_valid, crate::specs::Mpan::check_digit))]
 pub fn mpan_valid(mpan: u64) -> bool
     ensures { result ≡ mpan_valid mpan }
 {
-    if mpan < 1 {
-        return false;
-    }
-    if 9999999999999 < mpan {
-        return false;
-    }
-    weighted_sum(mpan) % 11 % 10 == mpan % 10
+    (1..=9999999999999).contains(&mpan) && weighted_sum(mpan) % 11 % 10 == mpan % 10
 }

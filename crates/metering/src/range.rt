@@ -6,12 +6,10 @@ ghost use Rattle.metering.specs.Range.{between, meters_in_range, categories_in_r
 pub fn between(low: u64, high: u64, x: u64) -> bool
     ensures { result ≡ between low high x }
 {
-    if x < low {
-        return false;
-    }
-    x <= high
+    (low..=high).contains(&x)
 }
 
+// Four functions of a line each: each bound has a definition and callers of its own name.
 #[tactic(auto, unfolding(crate::specs::Range::meters_in_range))]
 pub fn meters_in_range(meters: u64) -> bool
     ensures { result ≡ meters_in_range meters }
@@ -44,7 +42,7 @@ fn field_between(category: &[u8], at: usize, low: u64, high: u64) -> bool
     requires { at < length category.now }
     ensures { result ≡ between low high (get_or category.now at 0) }
 {
-    between(low, high, category[at] as u64)
+    between(low, high, u64::from(category[at]))
 }
 
 // What follows the segment byte. Group and domestic start at low, and each of group, domestic and window ends at the bound of its
@@ -54,30 +52,20 @@ fn fields_between(category: &[u8], low: u64, group: u64, domestic: u64, window: 
     requires { length category.now ≡ 8 }
     ensures { result ≡ fields_between low group domestic window category.now }
 {
-    if !field_between(category, 1, low, group) {
-        return false;
-    }
-    if !field_between(category, 2, low, domestic) {
-        return false;
-    }
-    if !field_between(category, 3, 1, 2) {
-        return false;
-    }
-    if !field_between(category, 4, 1, 4) {
-        return false;
-    }
-    field_between(category, 5, 0, window)
+    field_between(category, 1, low, group)
+        && field_between(category, 2, low, domestic)
+        && field_between(category, 3, 1, 2)
+        && field_between(category, 4, 1, 4)
+        && field_between(category, 5, 0, window)
 }
 
+// Segments stay numbers: a record's bytes are compared where they are lent, and an enum would be made here alone to be matched here.
 #[tactic(auto, unfolding(crate::specs::Range::smart_valid, crate::specs::Range::fields_between))]
 fn smart_valid(category: &[u8], windows: u64) -> bool
     requires { length category.now ≡ 8 }
     ensures { result ≡ smart_valid windows category.now }
 {
-    if category[0] != 1 {
-        return false;
-    }
-    fields_between(category, 1, 14, 2, windows)
+    category[0] == 1 && fields_between(category, 1, 14, 2, windows)
 }
 
 #[tactic(auto, unfolding(crate::specs::Range::advanced_valid, crate::specs::Range::fields_between))]
@@ -85,10 +73,7 @@ fn advanced_valid(category: &[u8]) -> bool
     requires { length category.now ≡ 8 }
     ensures { result ≡ advanced_valid category.now }
 {
-    if category[0] != 2 {
-        return false;
-    }
-    fields_between(category, 0, 0, 0, 0)
+    category[0] == 2 && fields_between(category, 0, 0, 0, 0)
 }
 
 // The eight bytes of a category record, of an opening with so many windows.
@@ -97,8 +82,5 @@ pub fn category_valid(category: &[u8], windows: u64) -> bool
     requires { length category.now ≡ 8 }
     ensures { result ≡ category_valid windows category.now }
 {
-    if smart_valid(category, windows) {
-        return true;
-    }
-    advanced_valid(category)
+    smart_valid(category, windows) || advanced_valid(category)
 }

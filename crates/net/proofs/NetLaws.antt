@@ -3,6 +3,7 @@ use Prim.Native.Nat.{ℕ, suc, ◌+◌, ◌≤◌}
 use mathlib.Core.Path.{◌≡◌, refl, sym, ◌∙◌}
 use mathlib.Core.Bool.{cond}
 use mathlib.Core.List.{List, [], ◌∷◌, ◌++◌}
+use lib.ListN.{length}
 use native.Mathlib.Omega.{arith}
 use native.Mathlib.Nat.{zero-add}
 use borrow.Table.Steps.{cases}
@@ -19,7 +20,7 @@ use Rattle.ledger.proofs.Nets.{signed_minus, sum_over_append}
 use Rattle.store.specs.declared.column.Column.{Column}
 use Rattle.store.specs.Column.{column_of, beside, cell_in, run_in}
 use Rattle.entries.specs.Sums.{Summed}
-use Rattle.net.specs.Walk.{SummedFirst, DayWritten, NetWritten, side_value, period_net, period_mark, week_tot, net_in}
+use Rattle.net.specs.Walk.{SummedOver, DayWritten, NetWritten, side_value, period_net, period_mark, week_tot, net_in}
 
 -- ---- marks
 
@@ -44,7 +45,7 @@ any_blank (c ∷ cs) f =
 pub day_small : {n r : ℕ} {f : ℕ → ℕ} → Summed n 274877906880 f r → n ≤ 96 → r ≤ 26388279060480
 day_small s low = omega (arith, s.small)
 
-pub week_small : {members : List ℕ} {n r : ℕ} {f : ℕ → ℕ} → SummedFirst members n 281474976710655 f r → n ≤ 64 → r ≤ 18014398509481920
+pub week_small : {members : List ℕ} {r : ℕ} {f : ℕ → ℕ} → SummedOver members 281474976710655 f r → length members ≤ 64 → r ≤ 18014398509481920
 week_small s low = omega (arith, s.small)
 
 -- ---- the net of a date

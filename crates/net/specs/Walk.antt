@@ -1,5 +1,5 @@
--- Sums over the categories at the front of an array, and what is written for the periods of a date.
-use Rattle.std.specs.Prelude.{ℕ, ◌+◌, ◌*◌, ◌≤◌, ◌<◌, ◌≡◌, cond, List, eqb, length, get_or, take, ℤ, pos, ◌-ℤ◌}
+-- Sums over categories, and what is written for the periods of a date.
+use Rattle.std.specs.Prelude.{ℕ, ◌+◌, ◌*◌, ◌≤◌, ◌<◌, ◌≡◌, cond, List, eqb, length, get_or, ℤ, pos, ◌-ℤ◌}
 use Rattle.ledger.specs.Table.{filling}
 use Rattle.ledger.specs.Net.{sum_over, Net}
 use Rattle.ledger.specs.Store.{tot_row, day_index, energy_of}
@@ -9,22 +9,21 @@ use Rattle.store.specs.Column.{beside, cell_in, run_in, value_after, blank_after
 use Rattle.store.specs.DayRows.{RowsFit}
 use Rattle.entries.specs.Sums.{Summed}
 
--- over the first `count` members, with the bound that keeps the sum within 64 bits
-pub record SummedFirst (members : List ℕ) (count bound : ℕ) (f : ℕ → ℕ) (r : ℕ) : Type 0 where
-  pub is : r ≡ sum_over (take count members) f
-  pub small : r ≤ bound * count
+-- over the members, with the bound that keeps the sum within 64 bits
+pub record SummedOver (members : List ℕ) (bound : ℕ) (f : ℕ → ℕ) (r : ℕ) : Type 0 where
+  pub is : r ≡ sum_over members f
+  pub small : r ≤ bound * length members
 
--- the first `count` members are among the categories that there are
-pub record Among (categories : ℕ) (members : List ℕ) (count : ℕ) : Type 0 where
-  pub few : count ≤ 64
-  pub within : count ≤ length members
-  pub each : (i : ℕ) → i < count → get_or members i 0 < categories
+-- the members are among the categories that there are
+pub record Among (categories : ℕ) (members : List ℕ) : Type 0 where
+  pub few : length members ≤ 64
+  pub each : (i : ℕ) → i < length members → get_or members i 0 < categories
 
 -- ---- the periods of a date; `column` is any category's of the store, and k how many periods come before
 
-pub record SideSummed (cells : List ℕ) (column : Column) (d k : ℕ) (members : List ℕ) (count value blanks : ℕ) : Type 0 where
-  pub values : SummedFirst members count 4294967295 (λ c. value_after (beside column c) cells d k) value
-  pub blank : SummedFirst members count 1 (λ c. blank_after (beside column c) cells d k) blanks
+pub record SideSummed (cells : List ℕ) (column : Column) (d k : ℕ) (members : List ℕ) (value blanks : ℕ) : Type 0 where
+  pub values : SummedOver members 4294967295 (λ c. value_after (beside column c) cells d k) value
+  pub blank : SummedOver members 1 (λ c. blank_after (beside column c) cells d k) blanks
 
 module _ (cells : List ℕ) (column : Column) (d : ℕ) where
   abbrev pub side_value : List ℕ → ℕ → ℕ
@@ -52,11 +51,10 @@ pub record DayWritten (cells : List ℕ) (column : Column) (d : ℕ) (imports ex
 abbrev pub week_tot : List ℕ → ℕ → ℕ → ℕ → ℕ
 week_tot days dates d c = energy_of (dates_sum 7 d (day_index dates c tot_row d) days)
 
--- the rows of each of the first `count` members lie in days of L entries
-pub record InDays (L dates d : ℕ) (members : List ℕ) (count : ℕ) : Type 0 where
-  pub few : count ≤ 64
-  pub within : count ≤ length members
-  pub each : (i : ℕ) → i < count → RowsFit dates (get_or members i 0) d L
+-- the rows of each of the members lie in days of L entries
+pub record InDays (L dates d : ℕ) (members : List ℕ) : Type 0 where
+  pub few : length members ≤ 64
+  pub each : (i : ℕ) → i < length members → RowsFit dates (get_or members i 0) d L
 
 -- ---- the net
 
@@ -66,12 +64,12 @@ net_in column cells days dates imports exports d =
     (λ x c j. cell_in (beside column c) cells x j) imports exports d
 
 -- all checks have passed, and both sides are found
-pub record MayWrite (cells : List ℕ) (column : Column) (L dates d : ℕ) (imports : List ℕ) (importCount : ℕ) (exports : List ℕ) (exportCount numbers marks : ℕ) : Type 0 where
+pub record MayWrite (cells : List ℕ) (column : Column) (L dates d : ℕ) (imports exports : List ℕ) (numbers marks : ℕ) : Type 0 where
   pub reaches : Reaches cells column d
-  pub import_days : InDays L dates d imports importCount
-  pub export_days : InDays L dates d exports exportCount
-  pub imported : Among column.categories imports importCount
-  pub exported : Among column.categories exports exportCount
+  pub import_days : InDays L dates d imports
+  pub export_days : InDays L dates d exports
+  pub imported : Among column.categories imports
+  pub exported : Among column.categories exports
   pub numbers_long : column.periods ≤ numbers
   pub marks_long : column.periods ≤ marks
 

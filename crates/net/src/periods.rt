@@ -1,5 +1,5 @@
 // The periods of the date: each cell that is summed is read once.
-ghost use Rattle.std.specs.Prelude.{◌≡◌, cond, ◌+◌, ◌<◌, ◌≤◌, eqb, pos, ◌-ℤ◌, length, set, take};
+ghost use Rattle.std.specs.Prelude.{◌≡◌, cond, ◌+◌, ◌<◌, ◌≤◌, eqb, pos, ◌-ℤ◌, length, set};
 ghost use Rattle.ledger.specs.Method.{is_blank};
 ghost use Rattle.entries.specs.Cell.{flag_meant};
 ghost use Rattle.entries.specs.Sums.{Figure};
@@ -10,14 +10,14 @@ use entries::cell::Flag;
 use store::column::{Column, beside, cell_at};
 
 // The cells of one period, summed over one side: their values, and how many of them are N.
-#[derive(Clone, Copy)]
+#[derive(Clone, Copy, Debug, PartialEq, Eq)]
 pub struct SideSum {
     pub value: u64,
     pub blanks: u64,
 }
 
 // The values of a date's cells, summed over each side.
-#[derive(Clone, Copy)]
+#[derive(Clone, Copy, Debug, PartialEq, Eq)]
 pub struct DaySums {
     pub import: u64,
     pub export: u64,
@@ -26,12 +26,7 @@ pub struct DaySums {
 fn blank_number(flag: Flag) -> u64
     ensures { Figure 1 (is_blank (flag_meant flag)) result }
 {
-    match flag {
-        Flag::A => 0,
-        Flag::D => 0,
-        Flag::E => 0,
-        Flag::N => 1,
-    }
+    u64::from(matches!(flag, Flag::N))
 }
 
 pub fn difference(import: u64, export: u64) -> i64
@@ -45,8 +40,7 @@ fn put_net(numbers: &mut [i64], k: u64, import: u64, export: u64)
     requires { (k < length numbers.old) × (import < 9223372036854775808) × (export < 9223372036854775808) }
     ensures { numbers.new ≡ set numbers.old k (pos import -ℤ pos export) }
 {
-    let net = difference(import, export);
-    numbers[k as usize] = net;
+    numbers[k as usize] = difference(import, export);
 }
 
 // A mark says that one of the cells is N.
@@ -55,36 +49,20 @@ fn put_mark(marks: &mut [u8], k: u64, import_blanks: u64, export_blanks: u64)
     ensures { marks.new ≡ set marks.old k (cond (eqb (import_blanks + export_blanks) 0) 0 1) }
 {
     let blanks = import_blanks + export_blanks;
-    if blanks == 0 {
-        marks[k as usize] = 0;
-        return;
-    }
-    marks[k as usize] = 1;
+    marks[k as usize] = u8::from(blanks != 0);
 }
 
-// Over the period that comes after `k` others.
-fn side_sum(
-    cells: &[u64],
-    column: Column,
-    date: u64,
-    k: u64,
-    members: &[u64; 64],
-    count: u64,
-) -> SideSum
-    requires { Reaches cells.now column date × (k < column.periods) × Among column.categories members.now count }
-    ensures { SideSummed cells.now column date k members.now count result.value result.blanks }
+// Over the period that comes after `k` others. The column is each member's own, so cells and date stay apart from it.
+fn side_sum(cells: &[u64], column: Column, date: u64, k: u64, members: &[u64]) -> SideSum
+    requires { Reaches cells.now column date × (k < column.periods) × Among column.categories members.now }
+    ensures { SideSummed cells.now column date k members.now result.value result.blanks }
 {
     let mut value: u64 = 0;
     let mut blanks: u64 = 0;
-    let mut i: u64 = 0;
-    while i < count {
-        let category = members[i as usize];
-        let member = beside(column, category);
-        let cell = cell_at(cells, member, date, k);
-        let flag = cell.flag;
+    for category in members {
+        let cell = cell_at(cells, beside(column, *category), date, k);
         value += cell.value;
-        blanks += blank_number(flag);
-        i += 1;
+        blanks += blank_number(cell.flag);
     }
     SideSum { value, blanks }
 }
@@ -93,28 +71,24 @@ pub fn write_periods(
     cells: &[u64],
     column: Column,
     date: u64,
-    imports: &[u64; 64],
-    import_count: u64,
-    exports: &[u64; 64],
-    export_count: u64,
+    imports: &[u64],
+    exports: &[u64],
     numbers: &mut [i64],
     marks: &mut [u8],
 ) -> DaySums
-    requires { Reaches cells.now column date × Among column.categories imports.now import_count × Among column.categories exports.now export_count × (column.periods ≤ length numbers.old) × (column.periods ≤ length marks.old) }
-    ensures { DayWritten cells.now column date (take import_count imports.now) (take export_count exports.now) numbers.old numbers.new marks.old marks.new result.import result.export }
+    requires { Reaches cells.now column date × Among column.categories imports.now × Among column.categories exports.now × (column.periods ≤ length numbers.old) × (column.periods ≤ length marks.old) }
+    ensures { DayWritten cells.now column date imports.now exports.now numbers.old numbers.new marks.old marks.new result.import result.export }
 {
     let periods = column.periods;
     let mut import: u64 = 0;
     let mut export: u64 = 0;
-    let mut k: u64 = 0;
-    while k < periods {
-        let plus = side_sum(cells, column, date, k, imports, import_count);
-        let minus = side_sum(cells, column, date, k, exports, export_count);
+    for k in 0..periods {
+        let plus = side_sum(cells, column, date, k, imports);
+        let minus = side_sum(cells, column, date, k, exports);
         put_net(numbers, k, plus.value, minus.value);
         put_mark(marks, k, plus.blanks, minus.blanks);
         import += plus.value;
         export += minus.value;
-        k += 1;
     }
     DaySums { import, export }
 }

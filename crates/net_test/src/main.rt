@@ -5,7 +5,7 @@ mod nets;
 mod show;
 
 use commands::Capacity;
-use session::Stage;
+use session::{Lent, Stage};
 
 fn main(rt: HostRuntime) {
     let mut category_records = [0u8; 96];
@@ -15,20 +15,20 @@ fn main(rt: HostRuntime) {
     let mut readings = [0u64; 7056];
     let mut cells = [0u64; 6912];
     let mut days = [0u64; 576];
-    let end = console::converse(
-        &rt,
-        &mut category_records,
-        &mut day_types,
-        &mut settings,
-        &mut meters,
-        &mut readings,
-        &mut cells,
-        &mut days,
-        Capacity {
+    let mut lent = Lent {
+        category_records: &mut category_records,
+        day_types: &mut day_types,
+        settings: &mut settings,
+        meters: &mut meters,
+        readings: &mut readings,
+        cells: &mut cells,
+        days: &mut days,
+        capacity: Capacity {
             meters: 12,
             date_periods: 576,
         },
-    );
+    };
+    let end = console::converse(&rt, &mut lent);
     match end {
         Stage::WriteFailed => {}
         _ => {

@@ -2,7 +2,6 @@
 ghost use Rattle.std.specs.Prelude.{◌≤◌};
 
 use crate::show;
-use engine::NetOutcome;
 
 // The lists have 50 entries, of which so many are lent.
 fn net_line(
@@ -32,19 +31,17 @@ fn net_line(
     );
     show::question(rt, date, category, all_groups);
     match outcome {
-        NetOutcome::Net(net) => {
-            let tot = net.tot;
-            let tot7 = net.tot7;
-            show::accepted(rt, tot, tot7);
+        Ok(net) => {
+            show::accepted(rt, net);
             show::numbers(rt, &numbers);
             show::marks(rt, &marks);
         }
-        NetOutcome::Refused { number, place } => {
-            show::refused(rt, number, place);
+        Err(refusal) => {
+            show::refused(rt, refusal);
             show::kept(rt, &numbers, &marks);
         }
     }
-    show::text(rt, b"\n");
+    show::end_of_line(rt);
 }
 
 // All categories of a date, and one past the last.

@@ -1,79 +1,35 @@
-// The parts of a line, to standard output.
-use metering::signed::magnitude;
-
-// A write that fails stops nothing.
-pub fn text(rt: &HostRuntime, bytes: &[u8]) {
-    let _ = rt.write_all(bytes);
-}
-
-fn decimal(rt: &HostRuntime, n: u64) {
-    let _ = rt.print(n);
-}
-
-fn number(rt: &HostRuntime, n: u64) {
-    text(rt, b" ");
-    decimal(rt, n);
-}
-
-fn signed(rt: &HostRuntime, x: i64) {
-    text(rt, b" ");
-    if x < 0 {
-        text(rt, b"-");
-    }
-    decimal(rt, magnitude(x));
-}
+// The parts of a line, to standard output. A write that fails stops nothing.
+use engine::{Net, Refusal};
 
 pub fn question(rt: &HostRuntime, date: u64, category: u64, all_groups: bool) {
-    text(rt, b"net");
-    number(rt, date);
-    number(rt, category);
-    if all_groups {
-        text(rt, b" 1");
-    } else {
-        text(rt, b" 0");
-    }
+    let _ = print!(rt; "net {date} {category} {}", u8::from(all_groups));
 }
 
-pub fn accepted(rt: &HostRuntime, tot: i64, tot7: i64) {
-    text(rt, b" ok");
-    signed(rt, tot);
-    signed(rt, tot7);
+pub fn accepted(rt: &HostRuntime, net: Net) {
+    let _ = print!(rt; " ok {} {}", net.tot, net.tot7);
 }
 
 pub fn numbers(rt: &HostRuntime, list: &[i64; 50]) {
-    for x in list {
-        signed(rt, *x);
+    for number in list {
+        let _ = print!(rt; " {number}");
     }
-}
-
-fn mark(rt: &HostRuntime, m: u8) {
-    number(rt, m as u64);
 }
 
 pub fn marks(rt: &HostRuntime, list: &[u8; 50]) {
-    for m in list {
-        mark(rt, *m);
+    for mark in list {
+        let _ = print!(rt; " {mark}");
     }
 }
 
-pub fn refused(rt: &HostRuntime, cause: u64, place: u64) {
-    text(rt, b" no");
-    number(rt, cause);
-    number(rt, place);
-}
-
-fn numbers_kept(list: &[i64; 50]) -> bool {
-    list.iter().all(|x| *x == -7)
-}
-
-fn marks_kept(list: &[u8; 50]) -> bool {
-    list.iter().all(|m| *m == 9)
+pub fn refused(rt: &HostRuntime, refusal: Refusal) {
+    let _ = print!(rt; " no {refusal}");
 }
 
 pub fn kept(rt: &HostRuntime, numbers: &[i64; 50], marks: &[u8; 50]) {
-    if numbers_kept(numbers) && marks_kept(marks) {
-        text(rt, b" kept");
-    } else {
-        text(rt, b" changed");
-    }
+    let kept = numbers.iter().all(|number| *number == -7) && marks.iter().all(|mark| *mark == 9);
+    let _ = print!(rt; "{}", if kept { " kept" } else { " changed" });
+}
+
+pub fn end_of_line(rt: &HostRuntime) {
+    let _ = println!(rt;);
 }

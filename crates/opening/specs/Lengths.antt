@@ -6,7 +6,7 @@ use Rattle.opening.specs.declared.sizes.Lengths.{Lengths}
 abbrev pub lengths_meant : Lengths → ledger.Lengths
 lengths_meant n = record { settings = n.settings; meters = n.meters; readings = n.readings; cells = n.cells; days = n.days }
 
-abbrev pub any_below_least : ledger.Lengths → ledger.Lengths → Bool
+unfoldable pub any_below_least : ledger.Lengths → ledger.Lengths → Bool
 any_below_least n least =
     ltb n.settings least.settings || ltb n.meters least.meters || ltb n.readings least.readings || ltb n.cells least.cells
     || ltb n.days least.days

@@ -1,2 +1,3 @@
 -- What the opening's contracts cite beyond the ledger's definitions.
+pub mod Each
 pub mod Lengths

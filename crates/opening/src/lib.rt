@@ -3,6 +3,7 @@
 
 mod category_records;
 mod day_types;
+mod each;
 mod sizes;
 mod windows;
 
@@ -14,51 +15,40 @@ ghost use Rattle.ledger.specs.Calls.{OpeningMeets};
 ghost use Rattle.ledger.specs.Checks.{opening_check};
 ghost use Rattle.ledger.specs.Ledger.{any_short, answer, accepted};
 
-use crate::category_records::categories_checked;
-use crate::day_types::day_types_checked;
+use crate::category_records::check_categories;
+use crate::day_types::check_day_types;
 use crate::sizes::{Lengths, least_lengths, sizes_valid, too_short};
-use crate::windows::windows_checked;
+use crate::windows::check_windows;
 use settings::writing::{OpeningTerms, write_settings};
-use store::outcome::Outcome;
+use store::refusal::{Check, Refusal};
 use store::writing::empty;
 
 // The checks, on the lengths of the parts lent: 3, 19, 4, 5, 1.
-fn opening_checked(
+// What is opened goes on as C passes it: a struct of it would be made here to be taken apart by each check.
+#[tactic(auto, using(crate::proofs::Laws::pieces))]
+fn check_opening(
     lent: Lengths,
     terms: OpeningTerms,
     windows: &[u64],
     category_records: &[u8],
     day_types: &[u8],
-) -> Outcome
+) -> Result<(), Refusal>
     ensures { answer_of result ≡ answer (opening_check (opening_call terms windows.now category_records.now day_types.now) (any_short (opening_call terms windows.now category_records.now day_types.now) (lengths_meant lent))) accepted }
 {
     if !sizes_valid(terms, category_records, day_types) {
-        return Outcome::Refused {
-            number: 3,
-            place: 0,
-        };
+        return Err(Refusal::from(Check::Sizes));
     }
-    let windowed = windows_checked(terms.duration, windows);
-    if let Outcome::Refused { number, place } = windowed {
-        return Outcome::Refused { number, place };
-    }
-    let categories = categories_checked((windows.len() / 2) as u64, category_records);
-    if let Outcome::Refused { number, place } = categories {
-        return Outcome::Refused { number, place };
-    }
-    let dates = day_types_checked(day_types);
-    if let Outcome::Refused { number, place } = dates {
-        return Outcome::Refused { number, place };
-    }
+    check_windows(terms.duration, windows)?;
+    check_categories((windows.len() / 2) as u64, category_records)?;
+    check_day_types(day_types)?;
     if too_short(lent, least_lengths(terms, category_records, day_types)) {
-        return Outcome::Refused {
-            number: 1,
-            place: 0,
-        };
+        return Err(Refusal::from(Check::Unready));
     }
-    Outcome::Accepted
+    Ok(())
 }
 
+// Nine arguments: the engine's public call, which may not change.
+#[tactic(auto, using(crate::proofs::Laws::opening_refused))]
 pub fn open(
     settings: &mut [u8],
     meters: &mut [u64],
@@ -69,7 +59,7 @@ pub fn open(
     windows: &[u64],
     category_records: &[u8],
     day_types: &[u8],
-) -> Outcome
+) -> Result<(), Refusal>
     ensures { OpeningMeets settings.old meters.old readings.old cells.old days.old (opening_call terms windows.now category_records.now day_types.now) (answer_of result) settings.new meters.new readings.new cells.new days.new }
 {
     let lent = Lengths {
@@ -79,15 +69,12 @@ pub fn open(
         cells: cells.len() as u64,
         days: days.len() as u64,
     };
-    let checked = opening_checked(lent, terms, windows, category_records, day_types);
-    if let Outcome::Refused { number, place } = checked {
-        return Outcome::Refused { number, place };
-    }
+    check_opening(lent, terms, windows, category_records, day_types)?;
     let least = least_lengths(terms, category_records, day_types);
     write_settings(settings, terms, windows, category_records, day_types);
     empty(meters, least.meters);
     empty(readings, least.readings);
     empty(cells, least.cells);
     empty(days, least.days);
-    Outcome::Accepted
+    Ok(())
 }

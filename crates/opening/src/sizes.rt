@@ -10,7 +10,7 @@ use settings::sizes::{cells_length, days_length, meters_length, readings_length,
 use settings::writing::OpeningTerms;
 
 // One length for each part.
-#[derive(Clone, Copy)]
+#[derive(Clone, Copy, Debug, PartialEq, Eq)]
 pub struct Lengths {
     pub settings: u64,
     pub meters: u64,
@@ -24,22 +24,15 @@ pub struct Lengths {
 pub fn sizes_valid(terms: OpeningTerms, category_records: &[u8], day_types: &[u8]) -> bool
     ensures { result ≡ sizes_valid (opening_call terms [] category_records.now day_types.now) }
 {
-    if !calendar::duration_known(terms.duration) {
-        return false;
-    }
-    if !range::meters_in_range(terms.meters) {
-        return false;
-    }
-    if category_records.len() % 8 != 0 {
-        return false;
-    }
-    if !range::categories_in_range((category_records.len() / 8) as u64) {
-        return false;
-    }
-    range::dates_in_range(day_types.len() as u64)
+    calendar::duration_known(terms.duration)
+        && range::meters_in_range(terms.meters)
+        && category_records.len() % 8 == 0
+        && range::categories_in_range((category_records.len() / 8) as u64)
+        && range::dates_in_range(day_types.len() as u64)
 }
 
 // What an opening of these sizes asks of each part.
+#[tactic(auto, using(crate::proofs::Laws::sized))]
 pub fn least_lengths(terms: OpeningTerms, category_records: &[u8], day_types: &[u8]) -> Lengths
     requires { sizes_valid (opening_call terms [] category_records.now day_types.now) ≡ true }
     ensures { lengths_meant result ≡ least_lengths (opening_call terms [] category_records.now day_types.now) }
@@ -56,20 +49,13 @@ pub fn least_lengths(terms: OpeningTerms, category_records: &[u8], day_types: &[
     }
 }
 
+#[tactic(auto, unfolding(crate::specs::Lengths::any_below_least))]
 pub fn too_short(lent: Lengths, least: Lengths) -> bool
     ensures { result ≡ any_below_least (lengths_meant lent) (lengths_meant least) }
 {
-    if lent.settings < least.settings {
-        return true;
-    }
-    if lent.meters < least.meters {
-        return true;
-    }
-    if lent.readings < least.readings {
-        return true;
-    }
-    if lent.cells < least.cells {
-        return true;
-    }
-    lent.days < least.days
+    lent.settings < least.settings
+        || lent.meters < least.meters
+        || lent.readings < least.readings
+        || lent.cells < least.cells
+        || lent.days < least.days
 }

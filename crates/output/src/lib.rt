@@ -2,4 +2,5 @@
 #![tactic(auto)]
 
 pub mod append;
+pub mod line;
 pub mod lines;

@@ -4,8 +4,9 @@ use mathlib.Core.Path.{◌≡◌, refl, sym, ap, ap₂, ◌∙◌}
 use mathlib.Core.Bool.{true, cond}
 use mathlib.Core.List.{List, [], ◌++◌}
 use mathlib.Core.Option.{Option}
-use native.Mathlib.Nat.{zero-add, le_trans}
+use native.Mathlib.Nat.{le_trans}
 use native.Mathlib.Numerals.{add-one}
+use native.Mathlib.Omega.{arith}
 use lib.Arith.{digits_div, digits_mod}
 use lib.ListN.{length, get_or, take, drop, replicate, get_or-replicate, get_or-append}
 use borrow.Table.Steps.{cases}
@@ -15,13 +16,13 @@ use Rattle.ledger.specs.Store.{meters_of, categories_of, dates_of, periods_of, r
 use Rattle.ledger.specs.Table.{tabulate, filling}
 use Rattle.ledger.specs.Calls.{counts_for, tally, family_tally, fresh_at, row_at, Published, as_published, Placing, publish, count_only, last_run, inherited_from, compared_entry, differing, carried_entry, Ran, carry_on, moved_by_row, settled, new_row, ran_from, moved_from, run_verdict, preview_verdict, previewed, overwritten}
 use Rattle.entries.specs.Reading.{reading_bound}
-use Rattle.ledger.proofs.Walks.{row_put, carry_on_same, settled_same, counted_first, previewed_is}
+use Rattle.ledger.proofs.Walks.{carry_on_same, settled_same, counted_first, previewed_is}
 use Rattle.ledger.proofs.Choices.{MayRun}
-use Rattle.ledger.proofs.Lists.{length_tabulate, get_d_tabulate, sum_below_cong, sum_below_times}
+use Rattle.ledger.proofs.Lists.{part_length, length_tabulate, get_d_tabulate, sum_below_cong, sum_below_times}
 use Rattle.entries.proofs.RowLaws.{filling_below, differing_le, differing_ext}
 use Rattle.run_date.specs.Sums.{tally_below, Tallied, Bounded, pooled_below, entry_from, row_from}
 use Rattle.run_date.proofs.Laws.{place_below, category_below, period_below, place_is, counts_together}
-use Rattle.later_dates.proofs.Laws.{part_row, part_is}
+use Rattle.later_dates.proofs.Laws.{part_row, part_spliced, put_is}
 
 -- ---- the new row, from sums and counts
 
@@ -118,26 +119,25 @@ pub moved_by_le : (n : ℕ) (cells : List ℕ) (d : ℕ) (new : ℕ → ℕ) (mo
 unfolding moved_by_row
 moved_by_le n cells d new moved is = rw is (differing_le n _ new)
 
--- what the next date takes over from a row that stands at `at`
-pub carried_on : (n at w : ℕ) (source inherited inherited' : List ℕ) (new : ℕ → ℕ) → w ≡ n →
-    inherited' ≡ filling w (λ k. carried_entry (get_or source (at + k) 0)) inherited → ((k : ℕ) → k < n → get_or source (at + k) 0 ≡ new k) →
+-- what the next date takes over from the new row
+pub carried_on : (n : ℕ) (new : ℕ → ℕ) (row inherited inherited' : List ℕ) → row ≡ tabulate n new →
+    inherited' ≡ filling (length row) (λ k. carried_entry (get_or row k 0)) inherited →
     (k : ℕ) → k < n → get_or inherited' k 0 ≡ carried_entry (new k)
-carried_on n at w source inherited inherited' new width is stands k l =
-    rw (is, width) (filling_below (λ j. carried_entry (get_or source (at + j) 0)) inherited n k l) ∙ ap carried_entry (stands k l)
+carried_on n new row inherited inherited' stands is k l =
+    rw (is, stands, length_tabulate n new)
+    (filling_below (λ j. carried_entry (get_or (tabulate n new) j 0)) inherited n k l ∙ ap carried_entry (get_d_tabulate n new k l))
 
 -- the row that a run wrote stands among the cells
-pub written_at : (s : List ℕ) (new : ℕ → ℕ) (cells days : List ℕ) (date : ℕ) → date * row_length s + row_length s ≤ length cells → (at : ℕ) → at ≡ date * row_length s →
-    (cells' days' : List ℕ) → as_published cells' days' ≡ publish s date (tabulate (row_length s) new) (as_published cells days) →
-    (k : ℕ) → k < row_length s → get_or cells' (at + k) 0 ≡ new k
-unfolding row_at
-written_at s new cells days date fit at start cells' days' put k l =
+pub written_at : (s : List ℕ) (new : ℕ → ℕ) (cells days : List ℕ) (date : ℕ) → date * row_length s + row_length s ≤ length cells →
+    (cells' days' row : List ℕ) → as_published cells' days' ≡ publish s date (tabulate (row_length s) new) (as_published cells days) →
+    row ≡ take (row_length s) (drop (date * row_length s) cells') → row ≡ tabulate (row_length s) new
+written_at s new cells days date fit cells' days' row put is =
     let n : ℕ = row_length s in
-    rw start
-    (ap (λ (p : Published). get_or p.cells (date * n + k) 0) put ∙ row_put n date (tabulate n new) cells (length_tabulate n new) fit k l ∙ get_d_tabulate n new k l)
-
--- and one that was drawn is the draft's front
-pub drawn_at : (n : ℕ) (row : List ℕ) (new : ℕ → ℕ) → row ≡ tabulate n new → (k : ℕ) → k < n → get_or row (0 + k) 0 ≡ new k
-drawn_at n row new is k l = rw (zero-add k, is) (get_d_tabulate n new k l)
+    let part : List ℕ → List ℕ = λ xs. take n (drop (date * n) xs) in
+    is
+    ∙ ap (λ (p : Published). part p.cells) put
+    ∙ ap part (sym (put_is n date (date * n) n cells refl refl (tabulate n new)))
+    ∙ part_spliced cells (tabulate n new) (date * n) n (omega (arith, fit)) (length_tabulate n new)
 
 -- the walk over later dates starts from the row just written, or drawn
 pub settles : (place : Placing) (s : List ℕ) (new : ℕ → ℕ) (p : Published) (date t : ℕ) (inherited' : List ℕ) (p' : Published) (moved : ℕ) → t ≡ day_type_of s date →
@@ -151,17 +151,17 @@ settles place s new p date t inherited' p' moved day put is carried =
     ∙ ap₂ (carry_on place s (day_type_of s date) (dates_of s - suc date) (λ k. carried_entry (new k)) (suc date)) put is)
 
 -- a row drawn over a copy of the published one is counted against that
-pub drawn_moved : (n d at w : ℕ) (cells row row' : List ℕ) (new : ℕ → ℕ) (moved : ℕ) → at ≡ d * n → w ≡ n → d * n + n ≤ length cells →
-    row' ≡ overwritten (take w (drop at cells)) row → moved ≡ differing n (λ k. compared_entry (get_or row' k 0)) new → moved ≡ moved_by_row n cells d new
+pub drawn_moved : (n d : ℕ) (cells published row row' : List ℕ) (new : ℕ → ℕ) (moved : ℕ) → d * n + n ≤ length cells →
+    published ≡ take n (drop (d * n) cells) → row' ≡ overwritten published row → moved ≡ differing n (λ k. compared_entry (get_or row' k 0)) new → moved ≡ moved_by_row n cells d new
 unfolding moved_by_row overwritten
-drawn_moved n d at w cells row row' new moved start width fit copied is =
+drawn_moved n d cells published row row' new moved fit stands copied is =
     is
     ∙ differing_ext n _ (λ k. compared_entry (row_at n cells d k)) new new
     (λ k l.
     ap compared_entry
-    (ap (λ (xs : List ℕ). get_or xs k 0) copied
-    ∙ get_or-append (take w (drop at cells)) _ 0 k (rw (part_is n d at w cells start width fit) l)
-    ∙ part_row n d at w cells start width k l))
+    (ap (λ (xs : List ℕ). get_or xs k 0) (copied ∙ ap (λ (xs : List ℕ). overwritten xs row) stands)
+    ∙ get_or-append (take n (drop (d * n) cells)) _ 0 k (rw (part_length cells (d * n) n fit) l)
+    ∙ part_row n d (d * n) n cells refl refl k l))
     (λ k l. refl)
 
 pub ran_is : (s m r cells days : List ℕ) (new : ℕ → ℕ) (date : ℕ) → ((k : ℕ) → k < row_length s → new k ≡ new_row s m r cells date k) →

@@ -1,23 +1,13 @@
 // A category's row of the date that is run.
 ghost use Rattle.std.specs.Prelude.{◌≡◌, ℕ, ◌+◌, ◌<◌, ◌≤◌, length, get_or};
-ghost use Rattle.ledger.specs.Method.{is_enough, fresh_of};
+ghost use Rattle.ledger.specs.Method.{fresh_of};
 ghost use Rattle.ledger.specs.Table.{tabulate};
 ghost use Rattle.ledger.specs.Calls.{row_entry, compared_entry, differing};
 ghost use Rattle.run_rows.specs.Shape.{shape_at, Averaged};
 
+use crate::tally::Tally;
 use entries::cell::{Cell, entry_of};
 use entries::entry;
-use metering::average::average_up;
-
-#[tactic(auto, unfolding(ledger::specs::Method::is_enough))]
-fn enough(count: u64, de_minimis: u64) -> bool
-    ensures { result ≡ is_enough count de_minimis }
-{
-    if count < 1 {
-        return false;
-    }
-    de_minimis <= count
-}
 
 // The entry of a category and period: its own average, the family's, or what the date takes over.
 #[tactic(auto, unfolding(ledger::specs::Method::fresh_of))]
@@ -25,29 +15,24 @@ fn shape_entry(
     smart: bool,
     de_minimis: u64,
     date: u64,
-    sum: u64,
-    count: u64,
-    family_sum: u64,
-    family_count: u64,
+    own: Tally,
+    family: Tally,
     inherited: u64,
 ) -> u64
-    requires date_bound { date < 1024 }
-    requires averaged { Averaged sum count }
-    requires averaged_2 { Averaged family_sum family_count }
-    ensures { result ≡ row_entry date (fresh_of smart de_minimis sum count family_sum family_count) inherited }
+    requires { date < 1024 }
+    ensures { result ≡ row_entry date (fresh_of smart de_minimis own.sum own.count family.sum family.count) inherited }
 {
-    if enough(count, de_minimis) {
-        return entry_of(Cell::own(date, average_up(sum, count), count));
+    if own.is_enough(de_minimis) {
+        return entry_of(Cell::own(date, own.average(), own.count));
     }
-    if smart {
-        if enough(family_count, de_minimis) {
-            return entry_of(Cell::pooled(date, average_up(family_sum, family_count), family_count));
-        }
+    if smart && family.is_enough(de_minimis) {
+        return entry_of(Cell::pooled(date, family.average(), family.count));
     }
     inherited
 }
 
 // Writes a category's row, whose stretch starts at `at`, and counts the cells that moved.
+#[tactic(auto, using(ledger::proofs::Lists::filling_zero, ledger::proofs::Lists::fill, entries::proofs::RowLaws::unfilled, entries::proofs::RowLaws::filled_whole, entries::proofs::RowLaws::differing_zero, entries::proofs::RowLaws::differing_le, entries::proofs::RowLaws::moved_entry_le, entries::proofs::RowLaws::count_next))]
 pub fn shape_row(
     smart: bool,
     de_minimis: u64,
@@ -67,23 +52,20 @@ pub fn shape_row(
     ensures value { result ≡ differing (length row.old) (λ p. compared_entry (get_or row.old p 0)) (shape_at smart de_minimis date sums.now counts.now inherited.now at family_sums.now family_counts.now) }
 {
     let mut moved: u64 = 0;
-    let mut p: usize = 0;
-    while p < row.len() {
+    for p in 0..row.len() {
         let k = at + p;
         let old = row[p];
-        let new = shape_entry(
-            smart,
-            de_minimis,
-            date,
-            sums[k],
-            counts[k],
-            family_sums[p],
-            family_counts[p],
-            inherited[k],
-        );
+        let own = Tally {
+            sum: sums[k],
+            count: counts[k],
+        };
+        let family = Tally {
+            sum: family_sums[p],
+            count: family_counts[p],
+        };
+        let new = shape_entry(smart, de_minimis, date, own, family, inherited[k]);
         moved += entry::moved_entry(entry::compared_entry(old), new);
         row[p] = new;
-        p += 1;
     }
     moved
 }

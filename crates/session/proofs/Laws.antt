@@ -9,16 +9,18 @@ use lib.Dec.{leb, ltb}
 use lib.Seq.{length-take-le, take-take, drop-drop, take-nil}
 use borrow.Author.Tests.{not-false}
 use Rattle.input.specs.Form.{extent_of, is_overfull}
-use Rattle.input.specs.declared.extent.Extent.TheVariants.{Whole, Bad}
+use Rattle.input.specs.declared.extent.Extent.TheVariants.{Whole}
+use Rattle.output.specs.Text.{Appended}
 use Rattle.commands.specs.Commands.{State, code, line_for}
-use Rattle.commands.specs.Program.{behind, bad_line, Setup, store_program}
+use Rattle.commands.specs.Program.{behind, Setup, store_program}
 use Rattle.commands.specs.declared.capacity.Capacity.{Capacity}
 use Rattle.commands.proofs.Laws.{category_silent, day_type_silent}
 use Rattle.commands.proofs.Program.{behind_behind, progress_whole, store_steady}
+use Rattle.session.specs.declared.held.Lent.{Lent}
 use Rattle.session.specs.declared.held.Session.{Session}
 use Rattle.session.specs.declared.held.Stage.{Stage}
 use Rattle.session.specs.declared.held.Stage.TheVariants.{Going, Full, Short, InputEnd, SaidBad, ReadFailed, WriteFailed}
-use Rattle.session.specs.Session.{Held, is_going, last_line, Because, Obeyed, setup_of, state_of}
+use Rattle.session.specs.Session.{HeldIn, SameLent, is_going, last_line, Obeyed, setup_in, state_in}
 
 -- ---- commands that print nothing
 
@@ -43,11 +45,31 @@ unfolding is_overfull
 day_type_room_lem code x y f e = not-false y (rw e at f)
 
 -- what is collected is as long as the session says
-pub same_extent : (s : Session) (output : ℕ) (records types settings meters readings cells days bytes : List ℕ) (capacity : Capacity) → Held s output (length records) (length types) →
-    (store_program (setup_of records types capacity)).extent (state_of s records types settings meters readings cells days) bytes
-    ≡ extent_of bytes (leb 8 (length records - s.category_bytes)) (ltb s.day_types (length types))
-same_extent s output records types settings meters readings cells days bytes capacity held =
-    rw (length-take-le s.category_bytes records held.categories, length-take-le s.day_types types held.day_types)
+pub same_extent : (s : Session) (output : ℕ) (lent : Lent) (bytes : List ℕ) → HeldIn s output lent →
+    (store_program (setup_in lent)).extent (state_in s lent) bytes
+    ≡ extent_of bytes (leb 8 (length lent.category_records.now - s.category_bytes)) (ltb s.day_types (length lent.day_types.now))
+same_extent s output lent bytes held =
+    rw (length-take-le s.category_bytes lent.category_records.now held.categories, length-take-le s.day_types lent.day_types.now held.day_types)
+
+-- one call after the other lends the same
+pub same_lent_then : {a b c : Lent} → SameLent a b → SameLent b c → SameLent a c
+same_lent_then p q =
+    record {
+      category_records = q.category_records ∙ p.category_records;
+      day_types = q.day_types ∙ p.day_types;
+      settings = q.settings ∙ p.settings;
+      meters = q.meters ∙ p.meters;
+      readings = q.readings ∙ p.readings;
+      cells = q.cells ∙ p.cells;
+      days = q.days ∙ p.days;
+      category_room = q.category_room ∙ p.category_room;
+      day_type_room = q.day_type_room ∙ p.day_type_room;
+      capacity = q.capacity ∙ p.capacity;
+    }
+
+-- and so the same setup
+pub same_setup : {a b : Lent} → SameLent a b → setup_in b ≡ setup_in a
+same_setup p = cc (p.category_room, p.day_type_room, p.capacity)
 
 -- ---- the bytes of a command, and those behind it
 
@@ -80,17 +102,6 @@ going_only WriteFailed e = absurd (true≢false (sym e))
 -- ---- steps
 
 module _ (g : Setup) where
-  -- nothing obeyed
-  pub obeyed_none : (s : State) (bytes waited : List ℕ) (output : ℕ) (stage : Stage) → last_line stage ≡ [] → Because g s bytes (length waited) output stage →
-      Obeyed g s bytes waited s bytes waited output stage
-  obeyed_none s bytes waited output stage none because =
-      record { gathered = []; program = refl; printed = rw none (sym (append-nil waited)); because = because }
-
-  -- `bad`
-  pub obeyed_bad : (s : State) (bytes waited waits : List ℕ) (output : ℕ) → waits ≡ waited ++ bad_line → (store_program g).extent s bytes ≡ Bad →
-      Obeyed g s bytes waited s bytes waits output SaidBad
-  obeyed_bad s bytes waited waits output said bad = record { gathered = []; program = refl; printed = said; because = bad }
-
   -- one command
   pub obeyed_one : (s : State) (bytes waited : List ℕ) (s' : State) (bytes' waits : List ℕ) (output k : ℕ) →
       (store_program g).extent s bytes ≡ Whole k →
@@ -117,3 +128,7 @@ module _ (g : Setup) where
         printed = rw (before, append_assoc waited a.gathered (b.gathered ++ last_line stage), ← append_assoc a.gathered b.gathered (last_line stage)) at b.printed;
         because = b.because;
       }
+
+-- a line put behind what waits, where it is the text
+pub line_behind : {before after part line text : List ℕ} {at r : ℕ} → part ≡ line → line ≡ text → Appended before at after r part → take r after ≡ take at before ++ text
+line_behind p e put = rw (← e, ← p) put.held

@@ -1,9 +1,11 @@
 -- What holds of a session between two commands, and what becomes of the commands at hand.
 use Rattle.std.specs.Prelude.{ℕ, ◌+◌, ◌-◌, ◌≤◌, ◌<◌, ◌≡◌, Bool, true, false, List, [], ◌++◌, length, take, drop}
 use Rattle.input.specs.declared.extent.Extent.TheVariants.{Cut, Bad}
+use Rattle.ledger.specs.Engine.{Parts}
 use Rattle.commands.specs.Commands.{State, parts_of}
 use Rattle.commands.specs.Program.{behind, progress, bad_line, Setup, store_program}
 use Rattle.commands.specs.declared.capacity.Capacity.{Capacity}
+use Rattle.session.specs.declared.held.Lent.{Lent}
 use Rattle.session.specs.declared.held.Session.{Session}
 use Rattle.session.specs.declared.held.Stage.{Stage}
 use Rattle.session.specs.declared.held.Stage.TheVariants.{Going, Full, Short, InputEnd, SaidBad, ReadFailed, WriteFailed}
@@ -70,6 +72,33 @@ state_of s categoryRecords day_types settings meters readings cells days =
       day_types = take s.day_types day_types;
       parts = parts_of settings meters readings cells days;
     }
+
+-- the same of what is lent
+abbrev pub HeldIn : Session → ℕ → Lent → Type 0
+HeldIn s output lent = Held s output (length lent.category_records.now) (length lent.day_types.now)
+
+abbrev pub setup_in : Lent → Setup
+setup_in lent = setup_of lent.category_records.now lent.day_types.now lent.capacity
+
+abbrev pub state_in : Session → Lent → State
+state_in s lent =
+    state_of s lent.category_records.now lent.day_types.now lent.settings.now lent.meters.now lent.readings.now lent.cells.now lent.days.now
+
+abbrev pub parts_in : Lent → Parts
+parts_in lent = parts_of lent.settings.now lent.meters.now lent.readings.now lent.cells.now lent.days.now
+
+-- the same parts are lent, with as much room and for as much
+pub record SameLent (lent later : Lent) : Type 0 where
+  pub category_records : later.category_records.ghost_name ≡ lent.category_records.ghost_name
+  pub day_types : later.day_types.ghost_name ≡ lent.day_types.ghost_name
+  pub settings : later.settings.ghost_name ≡ lent.settings.ghost_name
+  pub meters : later.meters.ghost_name ≡ lent.meters.ghost_name
+  pub readings : later.readings.ghost_name ≡ lent.readings.ghost_name
+  pub cells : later.cells.ghost_name ≡ lent.cells.ghost_name
+  pub days : later.days.ghost_name ≡ lent.days.ghost_name
+  pub category_room : length later.category_records.now ≡ length lent.category_records.now
+  pub day_type_room : length later.day_types.now ≡ length lent.day_types.now
+  pub capacity : later.capacity ≡ lent.capacity
 
 -- the bytes that a session has not yet taken
 abbrev pub untaken : Session → List ℕ → List ℕ

@@ -6,4 +6,4 @@ mod command;
 mod held;
 
 pub use block::{is_going, obey_all, say_bad, with_stage};
-pub use held::{Session, Stage};
+pub use held::{Lent, Session, Stage};

@@ -1,4 +1,3 @@
 -- Laws that the proofs share.
-mod Laws
+pub mod Laws
 mod WritingLaws
-pub mod MemberLaws

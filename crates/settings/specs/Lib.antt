@@ -2,4 +2,3 @@
 pub mod Access
 pub mod Opening
 pub mod Window
-pub mod Members

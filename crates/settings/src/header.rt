@@ -1,62 +1,63 @@
 // The numbers that the settings start with.
-ghost use Rattle.std.specs.Prelude.{◌≡◌, true, ◌+◌, ◌*◌, ◌<◌, ◌≤◌, length};
+ghost use Rattle.std.specs.Prelude.{◌≡◌, ◌+◌, ◌*◌, ◌<◌, ◌≤◌, length};
 ghost use Rattle.ledger.specs.Sizes.{header_length};
 ghost use Rattle.ledger.specs.Store.{word, duration_of, meters_of, categories_of, dates_of, periods_of, window_of, is_opened, settings_ready};
 ghost use Rattle.settings.specs.Window.{window_meant};
 
-use crate::access::byte_at;
+use crate::opened::Settings;
 use crate::sizes::{HEADER_LENGTH, settings_length};
 use metering::{calendar, range};
 
+// Which number is which.
+const DURATION: u64 = 0;
+
+const METERS: u64 = 1;
+
+const CATEGORIES: u64 = 2;
+
+const DATES: u64 = 3;
+
 #[tactic(auto, unfolding(ledger::specs::Store::word))]
-fn word(settings: &[u8], k: u64) -> u64
-    requires { 2 * k + 1 < length settings.now }
-    ensures { result ≡ word settings.now k }
+fn word(bytes: &[u8], k: u64) -> u64
+    requires { 2 * k + 1 < length bytes.now }
+    ensures { result ≡ word bytes.now k }
 {
-    256 * byte_at(settings, 2 * k) + byte_at(settings, 2 * k + 1)
+    let at = 2 * k as usize;
+    u64::from(u16::from_be_bytes([bytes[at], bytes[at + 1]]))
 }
 
-#[tactic(auto, unfolding(ledger::specs::Store::duration_of))]
-pub fn duration(settings: &[u8]) -> u64
-    requires { header_length ≤ length settings.now }
-    ensures { result ≡ duration_of settings.now }
+// Whether each number is one that an opening keeps.
+#[tactic(auto, unfolding(ledger::specs::Store::is_opened, ledger::specs::Store::duration_of, ledger::specs::Store::meters_of, ledger::specs::Store::categories_of, ledger::specs::Store::dates_of))]
+fn opened(bytes: &[u8]) -> bool
+    requires { header_length ≤ length bytes.now }
+    ensures { result ≡ is_opened bytes.now }
 {
-    word(settings, 0)
+    calendar::duration_known(word(bytes, DURATION))
+        && range::meters_in_range(word(bytes, METERS))
+        && range::categories_in_range(word(bytes, CATEGORIES))
+        && range::dates_in_range(word(bytes, DATES))
 }
 
-#[tactic(auto, unfolding(ledger::specs::Store::meters_of))]
-pub fn meter_count(settings: &[u8]) -> u64
-    requires { header_length ≤ length settings.now }
-    ensures { result ≡ meters_of settings.now }
+// A store of any bytes: fewer than the header's are too few to read its numbers.
+#[tactic(auto, using(crate::proofs::Laws::opened_bounds, crate::proofs::Laws::short_unready), unfolding(ledger::specs::Store::settings_ready, ledger::specs::Store::categories_of, ledger::specs::Store::dates_of))]
+pub(crate) fn settings_ready(bytes: &[u8]) -> bool
+    ensures { result ≡ settings_ready bytes.now }
 {
-    word(settings, 1)
-}
-
-#[tactic(auto, unfolding(ledger::specs::Store::categories_of))]
-pub fn category_count(settings: &[u8]) -> u64
-    requires { header_length ≤ length settings.now }
-    ensures { result ≡ categories_of settings.now }
-{
-    word(settings, 2)
-}
-
-#[tactic(auto, unfolding(ledger::specs::Store::dates_of))]
-pub fn date_count(settings: &[u8]) -> u64
-    requires { header_length ≤ length settings.now }
-    ensures { result ≡ dates_of settings.now }
-{
-    word(settings, 3)
+    let length = bytes.len() as u64;
+    HEADER_LENGTH <= length
+        && opened(bytes)
+        && settings_length(word(bytes, CATEGORIES), word(bytes, DATES)) <= length
 }
 
 // An off-peak window, from its start to its end minute.
-#[derive(Clone, Copy)]
+#[derive(Clone, Copy, Debug, PartialEq, Eq)]
 pub struct Window {
     pub start: u64,
     pub end: u64,
 }
 
-// By its number; 0 is none, and so is what is past the eighth.
-#[tactic(auto, unfolding(ledger::specs::Store::window_of))]
+// By its number; 0 is none, and so is what is past the eighth. Of any bytes that have a header, opened or not.
+#[tactic(auto, using(metering::proofs::Laws::between_true), unfolding(ledger::specs::Store::window_of))]
 pub fn window_of(settings: &[u8], number: u64) -> Window
     requires { header_length ≤ length settings.now }
     ensures { window_meant result ≡ window_of settings.now number }
@@ -70,42 +71,39 @@ pub fn window_of(settings: &[u8], number: u64) -> Window
     }
 }
 
-#[tactic(auto, unfolding(ledger::specs::Store::is_opened))]
-fn opened(settings: &[u8]) -> bool
-    requires { header_length ≤ length settings.now }
-    ensures { result ≡ is_opened settings.now }
-{
-    if !calendar::duration_known(duration(settings)) {
-        return false;
+impl<'a> Settings<'a> {
+    #[tactic(auto, using(crate::proofs::Laws::header_there), unfolding(ledger::specs::Store::duration_of))]
+    pub fn duration(self) -> u64
+        ensures { result ≡ duration_of self.entry.bytes.now }
+    {
+        word(self.bytes, DURATION)
     }
-    if !range::meters_in_range(meter_count(settings)) {
-        return false;
-    }
-    if !range::categories_in_range(category_count(settings)) {
-        return false;
-    }
-    range::dates_in_range(date_count(settings))
-}
 
-// A store of any bytes: fewer than the header's are too few to read its numbers.
-#[tactic(auto, unfolding(ledger::specs::Store::settings_ready))]
-pub fn settings_ready(settings: &[u8]) -> bool
-    ensures { result ≡ settings_ready settings.now }
-{
-    let length = settings.len() as u64;
-    if length < HEADER_LENGTH {
-        return false;
+    #[tactic(auto, using(crate::proofs::Laws::header_there), unfolding(ledger::specs::Store::meters_of))]
+    pub fn meter_count(self) -> u64
+        ensures { result ≡ meters_of self.entry.bytes.now }
+    {
+        word(self.bytes, METERS)
     }
-    if !opened(settings) {
-        return false;
-    }
-    settings_length(category_count(settings), date_count(settings)) <= length
-}
 
-#[tactic(auto, unfolding(ledger::specs::Store::periods_of))]
-pub fn period_count(settings: &[u8]) -> u64
-    requires { settings_ready settings.now ≡ true }
-    ensures { result ≡ periods_of settings.now }
-{
-    calendar::periods_per_day(duration(settings))
+    #[tactic(auto, using(crate::proofs::Laws::header_there), unfolding(ledger::specs::Store::categories_of))]
+    pub fn category_count(self) -> u64
+        ensures { result ≡ categories_of self.entry.bytes.now }
+    {
+        word(self.bytes, CATEGORIES)
+    }
+
+    #[tactic(auto, using(crate::proofs::Laws::header_there), unfolding(ledger::specs::Store::dates_of))]
+    pub fn date_count(self) -> u64
+        ensures { result ≡ dates_of self.entry.bytes.now }
+    {
+        word(self.bytes, DATES)
+    }
+
+    #[tactic(auto, using(crate::proofs::Laws::timed), unfolding(ledger::specs::Store::periods_of))]
+    pub fn period_count(self) -> u64
+        ensures { result ≡ periods_of self.entry.bytes.now }
+    {
+        calendar::periods_per_day(self.duration())
+    }
 }

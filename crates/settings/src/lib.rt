@@ -5,6 +5,7 @@ pub mod access;
 pub mod category;
 pub mod header;
 pub mod members;
+pub mod opened;
 pub mod ready;
 pub mod sizes;
 pub mod writing;

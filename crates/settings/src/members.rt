@@ -1,57 +1,37 @@
-// Categories that belong together, listed by their numbers: one side of a net, or a family.
-ghost use Rattle.std.specs.Prelude.{◌≡◌, true, cond, [], ◌∷◌, ◌++◌, ◌<◌, length, take};
-ghost use Rattle.ledger.specs.Store.{categories_of, settings_ready};
+// Categories that belong together, listed by their numbers, upward: one side of a net, or a family.
+ghost use Rattle.std.specs.Prelude.{◌≡◌, ◌<◌, ◌≤◌};
+ghost use Rattle.arrayvec.specs.ArrayVec.{array_vec_len};
+ghost use Rattle.ledger.specs.Store.{categories_of};
 ghost use Rattle.ledger.specs.Calls.{side_for, family_for};
-ghost use Rattle.settings.specs.Members.{Listed};
 
-use crate::category::{on_side, quantity};
-use crate::header::category_count;
+use crate::opened::Settings;
+use arrayvec::ArrayVec;
 
-// A chosen category goes behind the first `count`; the answer is how many there are then.
-fn with_member(found: &mut [u64; 64], count: u64, chosen: bool, category: u64) -> u64
-    requires { (count < 64) × (length found.old ≡ 64) }
-    ensures { Listed (take count found.old ++ cond chosen (category ∷ []) []) found.new result }
-{
-    if chosen {
-        found[count as usize] = category;
-        return count + 1;
+impl<'a> Settings<'a> {
+    // The categories on one side of a net.
+    #[tactic(auto, using(crate::proofs::Laws::ready_bounds, crate::proofs::Laws::choosing), unfolding(ledger::specs::Calls::side_for, ledger::specs::Net::side_of))]
+    pub fn side_members(self, all_groups: bool, quantity: u64, category: u64) -> ArrayVec<u64, 64>
+        requires { category < categories_of self.bytes.now }
+        ensures members { result.items ≡ side_for self.entry.bytes.now all_groups quantity category }
+        ensures few { array_vec_len result ≤ 64 }
+    {
+        let categories = self.category_count();
+        let mut members = ArrayVec::new();
+        for b in 0..categories {
+            if self.on_side(all_groups, quantity, category, b) {
+                members.push(b);
+            }
+        }
+        members
     }
-    count
-}
 
-// The categories on one side of a net. Their numbers stand at the front of `found`, upward; the answer is how many there are.
-#[tactic(auto, unfolding(ledger::specs::Calls::side_for, ledger::specs::Net::side_of))]
-pub fn side_members(
-    settings: &[u8],
-    all_groups: bool,
-    quantity: u64,
-    category: u64,
-    found: &mut [u64; 64],
-) -> u64
-    requires { (settings_ready settings.now ≡ true) × (category < categories_of settings.now) × (length found.old ≡ 64) }
-    ensures { Listed (side_for settings.now all_groups quantity category) found.new result }
-{
-    let categories = category_count(settings);
-    let mut count: u64 = 0;
-    let mut b: u64 = 0;
-    while b < categories {
-        let chosen = on_side(settings, all_groups, quantity, category, b);
-        count = with_member(found, count, chosen, b);
-        b += 1;
+    // The category's family: the side of its own quantity, in all groups. There is none for one that is not Smart.
+    #[tactic(auto, using(crate::proofs::Laws::own_side))]
+    pub fn family_members(self, category: u64) -> ArrayVec<u64, 64>
+        requires { category < categories_of self.bytes.now }
+        ensures members { result.items ≡ family_for self.entry.bytes.now category }
+        ensures few { array_vec_len result ≤ 64 }
+    {
+        self.side_members(true, self.quantity(category), category)
     }
-    count
-}
-
-// The category's family: the side of its own quantity, in all groups. There is none for one that is not Smart.
-pub fn family_members(settings: &[u8], category: u64, found: &mut [u64; 64]) -> u64
-    requires { (settings_ready settings.now ≡ true) × (category < categories_of settings.now) × (length found.old ≡ 64) }
-    ensures { Listed (family_for settings.now category) found.new result }
-{
-    side_members(
-        settings,
-        true,
-        quantity(settings, category),
-        category,
-        found,
-    )
 }

@@ -16,23 +16,21 @@ fn put_word(part: &mut [u8], at: usize, n: u64)
     requires { (at + 1 < length part.old) × (n < 65536) }
     ensures { part.new ≡ sets part.old at (word_bytes n) }
 {
-    part[at] = (n / 256) as u8;
-    part[at + 1] = (n % 256) as u8;
+    part[at..at + 2].copy_from_slice(&(n as u16).to_be_bytes());
 }
 
+// A loop and no `copy_from_slice`, which would need memmove: the library for C needs memcpy and memset alone.
 fn copy(part: &mut [u8], at: usize, source: &[u8])
     requires { at + length source.now ≤ length part.old }
     ensures { part.new ≡ sets part.old at source.now }
 {
-    let mut i: usize = 0;
-    while i < source.len() {
-        part[at + i] = source[i];
-        i += 1;
+    for (k, byte) in source.iter().enumerate() {
+        part[at + k] = *byte;
     }
 }
 
 // The numbers of an opening. The minutes of its windows, its category records and its day types are lent beside them.
-#[derive(Clone, Copy)]
+#[derive(Clone, Copy, Debug, PartialEq, Eq)]
 pub struct OpeningTerms {
     pub duration: u64,
     pub meters: u64,
@@ -42,10 +40,7 @@ pub struct OpeningTerms {
 fn minute_at(windows: &[u64], k: usize) -> u64
     ensures { result ≡ get_or windows.now k 0 }
 {
-    if k < windows.len() {
-        return windows[k];
-    }
-    0
+    windows.get(k).copied().unwrap_or(0)
 }
 
 // Eight windows behind the first four numbers.
@@ -55,10 +50,8 @@ fn write_windows(settings: &mut [u8], windows: &[u64])
     requires header_length_in_bounds { header_length ≤ length settings.old }
     ensures { settings.new ≡ sets settings.old 8 (minute_bytes 16 windows.now) }
 {
-    let mut k: usize = 0;
-    while k < 16 {
+    for k in 0..16 {
         put_word(settings, 8 + 2 * k, minute_at(windows, k));
-        k += 1;
     }
 }
 

@@ -3,6 +3,7 @@
 #![tactic(auto)]
 
 use commands::Capacity;
+use session::Lent;
 
 fn main(rt: HostRuntime) {
     let mut category_records = [0u8; 64];
@@ -12,18 +13,18 @@ fn main(rt: HostRuntime) {
     let mut readings = [0u64; 287120];
     let mut cells = [0u64; 284160];
     let mut days = [0u64; 11840];
-    console::converse(
-        &rt,
-        &mut category_records,
-        &mut day_types,
-        &mut settings,
-        &mut meters,
-        &mut readings,
-        &mut cells,
-        &mut days,
-        Capacity {
+    let mut lent = Lent {
+        category_records: &mut category_records,
+        day_types: &mut day_types,
+        settings: &mut settings,
+        meters: &mut meters,
+        readings: &mut readings,
+        cells: &mut cells,
+        days: &mut days,
+        capacity: Capacity {
             meters: 8,
             date_periods: 35520,
         },
-    );
+    };
+    console::converse(&rt, &mut lent);
 }

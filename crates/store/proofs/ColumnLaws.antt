@@ -12,7 +12,7 @@ use Rattle.ledger.specs.Store.{categories_of, dates_of, periods_of, settings_rea
 use Rattle.ledger.proofs.Ready.{ready, periods_bound}
 use Rattle.ledger.specs.Calls.{cells_unready}
 use Rattle.store.specs.declared.column.Column.{Column}
-use Rattle.store.specs.Column.{column_of, beside, place_in, Reaches}
+use Rattle.store.specs.Column.{column_of, place_in, Reaches}
 
 -- the places of a date's cells follow each other
 pub next_place : (column : Column) (d first k : ℕ) → first ≡ place_in column d 1 → first + k ≡ place_in column d (suc k)
@@ -27,13 +27,6 @@ module _ {cells : List ℕ} {column : Column} {d : ℕ} (w : Reaches cells colum
   pub places_within : place_in column d 1 + column.periods ≤ length cells
   unfolding cell_index
   places_within = omega (arith, category_within, w.date)
-
-  -- and so is the date's first cell, which says whether it is run
-  pub mark_within : d * (column.categories * column.periods) < length cells
-  mark_within = omega (arith, category_within, w.date, w.periods.0)
-
-  pub beside_reaches : (c : ℕ) {other : Column} → other ≡ beside column c → c < column.categories → Reaches cells other d
-  beside_reaches c e h = rw e (record { category = h; periods = w.periods; date = w.date })
 
 -- parts that pass the first check of a read
 pub cells_lent : (settings cells : List ℕ) {b : Bool} → b ≡ cells_unready settings cells → b ≡ false → (settings_ready settings ≡ true) × (cells_ready settings cells ≡ true)

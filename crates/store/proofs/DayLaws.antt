@@ -38,8 +38,8 @@ rows_fit s category date L opened room a_category a_date is =
 
 module _ {dates category date L : ℕ} (fit : RowsFit dates category date L) where
   -- what the place of an entry asks
-  pub row_known : (row : ℕ) → row < 4 → (dates ≤ 800) × (category < 64) × (row < 4) × (date < dates)
-  row_known row low = (fit.few_dates, fit.few_categories, low, fit.a_date)
+  pub row_known : (dates ≤ 800) × (category < 64) × (date < dates)
+  row_known = (fit.few_dates, fit.few_categories, fit.a_date)
 
   pub row_there : (row : ℕ) {at : ℕ} → row < 4 → at ≡ day_index dates category row date → at < L
   unfolding day_index

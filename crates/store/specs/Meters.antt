@@ -1,17 +1,20 @@
--- What a search for the latest registration goes by; a registration by its place among a slot's eight, 8 for none; and one from its fields.
-use Rattle.std.specs.Prelude.{ℕ, List, Bool, true, false, cond, ltb}
-use Rattle.std.proofs.Math.Option.{Option, none, some}
-use Rattle.ledger.specs.Checks.{Registration, starts}
-use Rattle.ledger.specs.Store.{registration_at}
+-- A registration as the ledger's, what a search found as the ledger has it, and what a search for the latest goes by.
+use Rattle.std.specs.Prelude.{ℕ, Option, Some, None}
+use Rattle.std.proofs.Math.Option as math
+use Rattle.ledger.specs.Checks as checks
+use Rattle.store.specs.declared.meters.Registration.{Registration}
+use Rattle.store.specs.declared.meters.Key.{Key}
+use Rattle.store.specs.declared.meters.Key.TheVariants.{Start, Moment}
+
+abbrev pub registration_meant : Registration → checks.Registration
+registration_meant r =
+    record { moment = r.moment; category = r.category; sender = r.sender; status = r.status; limit = r.limit }
+
+abbrev pub found_meant : Option Registration → math.Option checks.Registration
+found_meant None = math.none
+found_meant (Some r) = math.some (registration_meant r)
 
 -- the start, or date and minute
-abbrev pub key_by : Bool → Registration → ℕ
-key_by true = starts
-key_by false = λ r. r.moment
-
-unfoldable pub indexed : ℕ → List ℕ → ℕ → ℕ → Option Registration
-indexed M meters i k = cond (ltb k 8) (some (registration_at M meters i k)) none
-
-abbrev pub registration_of : ℕ → ℕ → ℕ → ℕ → ℕ → Registration
-registration_of moment category sender status limit =
-    record { moment = moment; category = category; sender = sender; status = status; limit = limit }
+abbrev pub key_by : Key → checks.Registration → ℕ
+key_by Start = checks.starts
+key_by Moment = λ r. r.moment

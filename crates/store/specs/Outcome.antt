@@ -1,33 +1,73 @@
--- What each call hands out, as the ledger's answer: the scope paper's number and values for each case.
-use Rattle.std.specs.Prelude.{ℕ, cond, List, eqb, ℤ, take}
+-- What each call hands out, as the ledger's answer: the scope paper's number for each failed check, and the values of an accepted call.
+use Rattle.std.specs.Prelude.{ℕ, List, ℤ, take, Result, Ok, Err}
+use Rattle.std.specs.Borrow.{Bor}
 use Rattle.ledger.specs.Method as method
 use Rattle.ledger.specs.Ledger.{Answer, refused, accepted, moved, totals_are, cell_is, net_is, band_is, filled_are, coverage_is, row_is}
 use Rattle.ledger.specs.Engine.{cells_of}
 use Rattle.entries.specs.Cell.{cell_meant}
-use Rattle.store.specs.declared.outcome.Outcome.{Outcome}
-use Rattle.store.specs.declared.outcome.Outcome.TheVariants as outcome
-use Rattle.store.specs.declared.outcome.RunOutcome.{RunOutcome}
-use Rattle.store.specs.declared.outcome.RunOutcome.TheVariants as run
+use Rattle.entries.specs.declared.cell.Cell.{Cell}
+use Rattle.store.specs.declared.refusal.Check.{Check}
+use Rattle.store.specs.declared.refusal.Check.TheVariants.{Unready, NoCategory, Sizes, CategoryRecord, DayType, Mpan, NotRegistered, NoSlot, Date, StartNotLater, SetHeld, NinthRegistration, Record, NotRun, Range, Fields, NoShape, DraftShort, Window, NoPartner, Sender, Quantity, Duration, EndMinute, SecondRecord, DeEnergised, Disconnected, ZeroEstimate, AboveLimit}
+use Rattle.store.specs.declared.refusal.Refusal.{Refusal}
 use Rattle.store.specs.declared.outcome.Totals.{Totals}
-use Rattle.store.specs.declared.outcome.TotalsOutcome.{TotalsOutcome}
-use Rattle.store.specs.declared.outcome.TotalsOutcome.TheVariants as totals
-use Rattle.store.specs.declared.outcome.CellOutcome.{CellOutcome}
-use Rattle.store.specs.declared.outcome.CellOutcome.TheVariants as cell
-use Rattle.store.specs.declared.outcome.NetOutcome.{NetOutcome}
-use Rattle.store.specs.declared.outcome.NetOutcome.TheVariants as net
-use Rattle.store.specs.declared.outcome.BandOutcome.{BandOutcome}
-use Rattle.store.specs.declared.outcome.BandOutcome.TheVariants as band
+use Rattle.store.specs.declared.outcome.Net.{Net}
+use Rattle.store.specs.declared.outcome.Band.{Band}
 use Rattle.store.specs.declared.outcome.Coverage.{Coverage}
-use Rattle.store.specs.declared.outcome.CoverageOutcome.{CoverageOutcome}
-use Rattle.store.specs.declared.outcome.CoverageOutcome.TheVariants as coverage
 
-abbrev pub answer_of : Outcome → Answer
-answer_of outcome.Accepted = accepted
-answer_of (outcome.Refused number place) = refused number place
+-- ---- refusals
 
-abbrev pub run_answer : RunOutcome → Answer
-run_answer (run.Moved m) = moved m
-run_answer (run.Refused number place) = refused number place
+abbrev pub number_of : Check → ℕ
+number_of Unready = 1
+number_of NoCategory = 2
+number_of Sizes = 3
+number_of CategoryRecord = 4
+number_of DayType = 5
+number_of Mpan = 6
+number_of NotRegistered = 7
+number_of NoSlot = 8
+number_of Date = 9
+number_of StartNotLater = 10
+number_of SetHeld = 11
+number_of NinthRegistration = 12
+number_of Record = 13
+number_of NotRun = 14
+number_of Range = 15
+number_of Fields = 16
+number_of NoShape = 17
+number_of DraftShort = 18
+number_of Window = 19
+number_of NoPartner = 26
+number_of Sender = 1001
+number_of Quantity = 1002
+number_of Duration = 1004
+number_of EndMinute = 1005
+number_of SecondRecord = 1006
+number_of DeEnergised = 1008
+number_of Disconnected = 1009
+number_of ZeroEstimate = 1011
+number_of AboveLimit = 1012
+
+-- the number of the check that failed; 0 says that all passed
+abbrev pub failed_number : {A : Type 0} → Result A Check → ℕ
+failed_number (Ok _) = 0
+failed_number (Err check) = number_of check
+
+abbrev pub refusal_answer : Refusal → Answer
+refusal_answer r = refused (number_of r.check) r.place
+
+-- ---- answers: a refusal, or what the call gives
+
+abbrev pub answered : {A : Type 0} → (A → Answer) → Result A Refusal → Answer
+answered given (Ok x) = given x
+answered given (Err refusal) = refusal_answer refusal
+
+-- acceptance and nothing beyond it: opening, registration, reception
+abbrev pub answer_of : {A : Type 0} → Result A Refusal → Answer
+answer_of r = answered (λ _. accepted) r
+
+-- how many cells moved
+abbrev pub run_answer : Result ℕ Refusal → Answer
+run_answer r = answered moved r
 
 abbrev pub totals_meant : Totals → method.Totals
 totals_meant t =
@@ -45,37 +85,31 @@ totals_meant t =
       blanks = t.blanks;
     }
 
-abbrev pub totals_answer : TotalsOutcome → Answer
-totals_answer (totals.Totals t) = totals_are (totals_meant t)
-totals_answer (totals.Refused number place) = refused number place
+abbrev pub totals_answer : Result Totals Refusal → Answer
+totals_answer r = answered (λ t. totals_are (totals_meant t)) r
 
-abbrev pub cell_answer : CellOutcome → Answer
-cell_answer (cell.Cell a) = cell_is (cell_meant a)
-cell_answer (cell.Refused number place) = refused number place
+abbrev pub cell_answer : Result Cell Refusal → Answer
+cell_answer r = answered (λ a. cell_is (cell_meant a)) r
 
 -- net TOT and TOT7 as returned, the first P numbers and marks as the lists then have them
-abbrev pub net_answer : ℕ → NetOutcome → List ℤ → List ℕ → Answer
-net_answer P (net.Net n) numbers marks = net_is (record { tot = n.tot; tot7 = n.tot7; periods = take P numbers; marks = take P marks })
-net_answer P (net.Refused number place) numbers marks = refused number place
+abbrev pub net_answer : ℕ → Result Net Refusal → List ℤ → List ℕ → Answer
+net_answer P r numbers marks = answered (λ n. net_is (record { tot = n.tot; tot7 = n.tot7; periods = take P numbers; marks = take P marks })) r
 
 -- the numbers as returned, the dates written as the list then has them
-abbrev pub band_answer : BandOutcome → List ℕ → Answer
-band_answer (band.Band b) dates = band_is (record { written = b.written; found = b.found; dates = take b.written dates })
-band_answer (band.Refused number place) dates = refused number place
+abbrev pub band_answer : Result Band Refusal → List ℕ → Answer
+band_answer r dates = answered (λ b. band_is (record { written = b.written; found = b.found; dates = take b.written dates })) r
 
 -- the first P numbers as the list then has them
-abbrev pub fill_answer : ℕ → Outcome → List ℕ → Answer
-fill_answer P outcome.Accepted filled = filled_are (take P filled)
-fill_answer P (outcome.Refused number place) filled = refused number place
+abbrev pub fill_answer : {A : Type 0} → ℕ → Result A Refusal → List ℕ → Answer
+fill_answer P r filled = answered (λ _. filled_are (take P filled)) r
 
 abbrev pub coverage_meant : Coverage → method.Coverage
 coverage_meant c =
     record { fresh7 = c.fresh7; blanks7 = c.blanks7; fresh365 = c.fresh365; blanks365 = c.blanks365; oldest = c.oldest }
 
-abbrev pub coverage_answer : CoverageOutcome → Answer
-coverage_answer (coverage.Coverage c) = coverage_is (coverage_meant c)
-coverage_answer (coverage.Refused number place) = refused number place
+abbrev pub coverage_answer : Result Coverage Refusal → Answer
+coverage_answer r = answered (λ c. coverage_is (coverage_meant c)) r
 
--- a row is handed back as it stands; the number lent with it tells whether it was refused
-abbrev pub row_answer : ℕ → List ℕ → Answer
-row_answer number row = cond (eqb number 0) (row_is (cells_of row)) (refused number 0)
+-- a row is handed back as the stretch where it stands
+abbrev pub row_answer : Result (Bor (List ℕ)) Refusal → Answer
+row_answer r = answered (λ row. row_is (cells_of row.now)) r

@@ -1,12 +1,11 @@
 // One category's cells: where they stand in the lent part, and what they say.
-ghost use Rattle.std.specs.Prelude.{◌≡◌, true, suc, ◌+◌, ◌*◌, ◌<◌, ◌^◌};
-ghost use Rattle.ledger.specs.Store.{settings_ready};
+ghost use Rattle.std.specs.Prelude.{◌≡◌, suc, ◌+◌, ◌*◌, ◌<◌, ◌^◌};
 ghost use Rattle.store.specs.Column.{column_of, beside, place_in, cell_in, run_in, Reaches, CellRead};
 
 use crate::access::entry_at;
 use crate::run_mark::is_run;
 use entries::cell::{Cell, cell_of_entry};
-use settings::header::{category_count, period_count};
+use settings::opened::Settings;
 
 // One category among `categories`, each with `periods` cells a date.
 #[derive(Clone, Copy)]
@@ -16,13 +15,12 @@ pub struct Column {
     pub category: u64,
 }
 
-pub fn column_of(settings: &[u8], category: u64) -> Column
-    requires { settings_ready settings.now ≡ true }
-    ensures { result ≡ column_of settings.now category }
+pub fn column_of(settings: Settings, category: u64) -> Column
+    ensures { result ≡ column_of settings.entry.bytes.now category }
 {
     Column {
-        categories: category_count(settings),
-        periods: period_count(settings),
+        categories: settings.category_count(),
+        periods: settings.period_count(),
         category,
     }
 }
@@ -31,11 +29,7 @@ pub fn column_of(settings: &[u8], category: u64) -> Column
 pub fn beside(column: Column, category: u64) -> Column
     ensures { result ≡ beside column category }
 {
-    Column {
-        categories: column.categories,
-        periods: column.periods,
-        category,
-    }
+    Column { category, ..column }
 }
 
 // The place of the category's first cell of the date.

@@ -1,19 +1,20 @@
 // Where a category's days stand, four rows of entries for the dates; and what they say of a date.
 ghost use Rattle.std.specs.Prelude.{◌≡◌, ◌<◌, ◌≤◌, length};
 ghost use Rattle.ledger.specs.Store.{day_row, day_index, is_run_day, coverage_of};
+ghost use Rattle.store.specs.DayRows.{row_meant};
 ghost use Rattle.store.specs.Outcome.{coverage_meant};
 
 use crate::access::entry_at;
 use crate::outcome::Coverage;
 
-// The rows of a category.
-pub const DAY: u64 = 0;
-
-pub const SUMS: u64 = 1;
-
-pub const TOT: u64 = 2;
-
-pub const OFF: u64 = 3;
+// The rows of a category, in the order in which they stand.
+#[derive(Clone, Copy, Debug, PartialEq, Eq)]
+pub enum DayRow {
+    Day,
+    Sums,
+    Tot,
+    Off,
+}
 
 // What a date has in them beside its sums.
 #[derive(Clone, Copy)]
@@ -24,11 +25,11 @@ pub struct DayEntries {
 }
 
 #[tactic(auto, unfolding(ledger::specs::Store::day_index))]
-pub fn day_index(dates: u64, category: u64, row: u64, date: u64) -> u64
-    requires { (dates ≤ 800) × (category < 64) × (row < 4) × (date < dates) }
-    ensures { result ≡ day_index dates category row date }
+pub fn day_index(dates: u64, category: u64, row: DayRow, date: u64) -> u64
+    requires { (dates ≤ 800) × (category < 64) × (date < dates) }
+    ensures { result ≡ day_index dates category (row_meant row) date }
 {
-    (4 * category + row) * dates + date
+    (4 * category + row as u64) * dates + date
 }
 
 // Whether the date is run, by the days alone.
@@ -37,7 +38,7 @@ pub fn is_run_day(dates: u64, category: u64, days: &[u64], date: u64) -> bool
     requires { (dates ≤ 800) × (category < 64) × (date < dates) × (day_index dates category day_row date < length days.now) }
     ensures { result ≡ is_run_day dates category days.now date }
 {
-    entry_at(days, day_index(dates, category, DAY, date)) != 0
+    entry_at(days, day_index(dates, category, DayRow::Day, date)) != 0
 }
 
 #[tactic(auto, unfolding(ledger::specs::Store::coverage_of))]

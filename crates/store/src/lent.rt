@@ -1,57 +1,92 @@
-// Whether the parts that a call is lent can be read: opened, and long enough.
-ghost use Rattle.std.specs.Prelude.{◌≡◌};
+// What a call is lent, handed out where it can be read: opened settings, and parts that are long enough.
+ghost use Rattle.std.specs.Prelude.{◌≡◌, true, not};
+ghost use Rattle.ledger.specs.Store.{settings_ready, cells_ready, days_ready};
 ghost use Rattle.ledger.specs.Calls.{meters_unready, run_unready, cells_unready, days_unready};
+ghost use Rattle.store.specs.Lent.{LentUnless};
 
-use settings::header::settings_ready;
-use settings::ready::{cells_ready, days_ready, meters_ready, readings_ready};
+use crate::refusal::Check;
+use settings::opened::Settings;
 
-#[tactic(auto, unfolding(ledger::specs::Calls::meters_unready))]
-pub fn meters_unready(settings: &[u8], meters: &[u64], readings: &[u64]) -> bool
-    ensures { result ≡ meters_unready settings.now meters.now readings.now }
-{
-    if !settings_ready(settings) {
-        return true;
-    }
-    if !meters_ready(settings, meters) {
-        return true;
-    }
-    !readings_ready(settings, readings)
+// Cells to read, as long as the settings ask.
+#[derive(Clone, Copy)]
+pub struct Cells<'a> {
+    pub settings: Settings<'a>,
+    pub entries: &'a [u64],
+    ghost long: { cells_ready settings.bytes.now entries.now ≡ true },
 }
 
-pub fn run_unready(
-    settings: &[u8],
+// Days to read, likewise.
+#[derive(Clone, Copy)]
+pub struct Days<'a> {
+    pub settings: Settings<'a>,
+    pub entries: &'a [u64],
+    ghost long: { days_ready settings.bytes.now entries.now ≡ true },
+}
+
+fn opened<'a>(settings: &'a [u8]) -> Result<Settings<'a>, Check>
+    ensures { LentUnless (not (settings_ready settings.now)) (λ s. s.bytes.now ≡ settings.now) result }
+{
+    Settings::of(settings).ok_or(Check::Unready)
+}
+
+// The settings, with meters and readings that are long enough.
+#[tactic(auto, unfolding(ledger::specs::Calls::meters_unready))]
+pub fn meters_lent<'a>(
+    settings: &'a [u8],
+    meters: &[u64],
+    readings: &[u64],
+) -> Result<Settings<'a>, Check>
+    ensures { LentUnless (meters_unready settings.now meters.now readings.now) (λ s. s.bytes.now ≡ settings.now) result }
+{
+    let settings = opened(settings)?;
+    if !settings.meters_ready(meters) || !settings.readings_ready(readings) {
+        return Err(Check::Unready);
+    }
+    Ok(settings)
+}
+
+// And with cells and days too.
+#[tactic(auto, unfolding(ledger::specs::Calls::meters_unready, ledger::specs::Calls::run_unready))]
+pub fn run_lent<'a>(
+    settings: &'a [u8],
     meters: &[u64],
     readings: &[u64],
     cells: &[u64],
     days: &[u64],
-) -> bool
-    ensures { result ≡ run_unready settings.now meters.now readings.now cells.now days.now }
+) -> Result<Settings<'a>, Check>
+    ensures { LentUnless (run_unready settings.now meters.now readings.now cells.now days.now) (λ s. s.bytes.now ≡ settings.now) result }
 {
-    if meters_unready(settings, meters, readings) {
-        return true;
+    let settings = meters_lent(settings, meters, readings)?;
+    if !settings.cells_ready(cells) || !settings.days_ready(days) {
+        return Err(Check::Unready);
     }
-    if !cells_ready(settings, cells) {
-        return true;
-    }
-    !days_ready(settings, days)
+    Ok(settings)
 }
 
 #[tactic(auto, unfolding(ledger::specs::Calls::cells_unready))]
-pub fn cells_unready(settings: &[u8], cells: &[u64]) -> bool
-    ensures { result ≡ cells_unready settings.now cells.now }
+pub fn cells_lent<'a>(settings: &'a [u8], cells: &'a [u64]) -> Result<Cells<'a>, Check>
+    ensures { LentUnless (cells_unready settings.now cells.now) (λ c. (c.settings.bytes.now ≡ settings.now) × (c.entries.now ≡ cells.now)) result }
 {
-    if !settings_ready(settings) {
-        return true;
+    let settings = opened(settings)?;
+    if !settings.cells_ready(cells) {
+        return Err(Check::Unready);
     }
-    !cells_ready(settings, cells)
+    Ok(Cells {
+        settings,
+        entries: cells,
+    })
 }
 
 #[tactic(auto, unfolding(ledger::specs::Calls::days_unready))]
-pub fn days_unready(settings: &[u8], days: &[u64]) -> bool
-    ensures { result ≡ days_unready settings.now days.now }
+pub fn days_lent<'a>(settings: &'a [u8], days: &'a [u64]) -> Result<Days<'a>, Check>
+    ensures { LentUnless (days_unready settings.now days.now) (λ d. (d.settings.bytes.now ≡ settings.now) × (d.entries.now ≡ days.now)) result }
 {
-    if !settings_ready(settings) {
-        return true;
+    let settings = opened(settings)?;
+    if !settings.days_ready(days) {
+        return Err(Check::Unready);
     }
-    !days_ready(settings, days)
+    Ok(Days {
+        settings,
+        entries: days,
+    })
 }

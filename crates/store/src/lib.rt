@@ -9,6 +9,7 @@ pub mod meter_call;
 pub mod meters;
 pub mod outcome;
 pub mod readings;
+pub mod refusal;
 pub mod rows;
 pub mod run_mark;
 pub mod writing;

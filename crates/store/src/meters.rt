@@ -1,29 +1,25 @@
 // The meters part: MPANs first, so that the search reads one stretch, then eight registrations a slot.
-ghost use Rattle.std.specs.Prelude.{◌≡◌, false, ◌&&◌, ◌+◌, ◌*◌, ◌<◌, ◌≤◌, leb, eqb, length, get_or};
+ghost use Rattle.std.specs.Prelude.{◌≡◌, true, false, ◌+◌, ◌<◌, ◌≤◌, eqb, length, MatchOption};
 ghost use Rattle.std.proofs.Math.Option.{none};
-ghost use Rattle.store.specs.Meters.{key_by, indexed, registration_of};
+ghost use Rattle.store.specs.Meters.{registration_meant, found_meant, key_by};
 ghost use Rattle.ledger.specs.Sizes.{meters_length};
-ghost use Rattle.ledger.specs.Checks.{moment_of, start_of, starts, latest_from, in_force, appointed, not_after_last};
-ghost use Rattle.ledger.specs.Store.{mpan_at, slot_of, registration_at, registration_index, registrations_at, put_registration};
+ghost use Rattle.ledger.specs.Checks.{moment_of, start_of, starts, later, latest_from, in_force, appointed, not_after_last};
+ghost use Rattle.ledger.specs.Store.{mpan_at, slot_of, known_at, registration_at, registration_index, registrations_at, put_registration};
 
 use crate::access::{entry_at, put_entry};
 
-// The first slot that has the MPAN or is free, else the number of slots.
-#[tactic(auto, unfolding(ledger::specs::Store::slot_of))]
+// The first slot that has the MPAN or is free, else the number of slots: that, and no `None`, since the ledger's `slot_of` and what
+// callers promise say "the number of slots" too.
+#[tactic(auto, using(crate::proofs::Laws::slot_turns), unfolding(ledger::specs::Store::slot_of))]
 pub fn slot_of(slots: u64, mpan: u64, meters: &[u64]) -> u64
     requires { slots ≤ length meters.now }
     ensures { result ≡ slot_of slots mpan meters.now }
 {
-    let mut i: usize = 0;
-    while (i as u64) < slots {
-        let kept = meters[i];
-        if kept == mpan {
-            return i as u64;
+    for i in 0..slots {
+        let kept = entry_at(meters, i);
+        if kept == mpan || kept == 0 {
+            return i;
         }
-        if kept == 0 {
-            return i as u64;
-        }
-        i += 1;
     }
     slots
 }
@@ -57,165 +53,184 @@ pub fn start_of(date: u64, minute: u64) -> u64
     date + 1
 }
 
-#[tactic(auto, unfolding(ledger::specs::Store::registration_index))]
+// The moment is date and minute as one number (`moment_of`).
+#[derive(Clone, Copy, Debug, PartialEq, Eq)]
+pub struct Registration {
+    pub moment: u64,
+    pub category: u64,
+    pub sender: u64,
+    pub status: u64,
+    pub limit: u64,
+}
+
+impl Registration {
+    #[tactic(auto, unfolding(ledger::specs::Checks::starts))]
+    fn start(self) -> u64
+        ensures { result ≡ starts (registration_meant self) }
+    {
+        start_of(self.moment / 1440, self.moment % 1440)
+    }
+}
+
+// What a search for the latest registration goes by. An enum and no closure, whose contract would need a law beside it that says what
+// it gives for each registration.
+#[derive(Clone, Copy)]
+enum Key {
+    Start,
+    Moment,
+}
+
+impl Key {
+    fn of(self, registration: Registration) -> u64
+        ensures { result ≡ key_by self (registration_meant registration) }
+    {
+        match self {
+            Key::Start => registration.start(),
+            Key::Moment => registration.moment,
+        }
+    }
+}
+
+// What a search has found after one more registration: of those not past the bound the latest, of equals the one that came last.
+#[tactic(auto, unfolding(ledger::specs::Checks::later))]
+fn later(
+    key: Key,
+    bound: u64,
+    best: Option<Registration>,
+    next: Registration,
+) -> Option<Registration>
+    ensures { found_meant result ≡ later (key_by key) bound (found_meant best) (registration_meant next) }
+{
+    if bound < key.of(next) {
+        return best;
+    }
+    if best.is_none_or(|kept| key.of(kept) <= key.of(next)) {
+        Some(next)
+    } else {
+        best
+    }
+}
+
+// All five entries of a registration are in the part.
+#[tactic(auto, unfolding(ledger::specs::Store::registration_index, ledger::specs::Sizes::meters_length))]
 fn registration_index(slots: u64, slot: u64, k: u64) -> u64
     requires { (slots ≤ 1024) × (slot < slots) × (k < 8) }
-    ensures { result ≡ registration_index slots slot k }
+    ensures place { result ≡ registration_index slots slot k }
+    ensures within { result + 4 < meters_length slots }
 {
     slots + 40 * slot + 5 * k
 }
 
-fn registration_entry(slots: u64, meters: &[u64], slot: u64, k: u64, field: u64) -> u64
-    requires { (slots ≤ 1024) × (slot < slots) × (meters_length slots ≤ length meters.now) × (k < 8) × (field < 5) }
-    ensures { result ≡ get_or meters.now (registration_index slots slot k + field) 0 }
-{
-    entry_at(meters, registration_index(slots, slot, k) + field)
+// One slot of the part, with its eight registrations: those up to the first with status 0 are used.
+#[derive(Clone, Copy)]
+pub struct Slot<'a> {
+    pub slots: u64,
+    pub meters: &'a [u64],
+    pub slot: u64,
+    ghost few: { slots ≤ 1024 },
+    ghost inside: { slot < slots },
+    ghost room: { meters_length slots ≤ length meters.now },
 }
 
-#[tactic(auto, unfolding(ledger::specs::Store::registration_at))]
-fn registration_moment(slots: u64, meters: &[u64], slot: u64, k: u64) -> u64
-    requires { (slots ≤ 1024) × (slot < slots) × (meters_length slots ≤ length meters.now) × (k < 8) }
-    ensures { result ≡ (registration_at slots meters.now slot k).moment }
-{
-    registration_entry(slots, meters, slot, k, 0)
-}
-
-#[tactic(auto, unfolding(ledger::specs::Checks::starts))]
-fn registration_start(slots: u64, meters: &[u64], slot: u64, k: u64) -> u64
-    requires { (slots ≤ 1024) × (slot < slots) × (meters_length slots ≤ length meters.now) × (k < 8) }
-    ensures { result ≡ starts (registration_at slots meters.now slot k) }
-{
-    let moment = registration_moment(slots, meters, slot, k);
-    start_of(moment / 1440, moment % 1440)
-}
-
-#[tactic(auto, unfolding(ledger::specs::Store::registration_at))]
-pub fn registration_category(slots: u64, meters: &[u64], slot: u64, k: u64) -> u64
-    requires { (slots ≤ 1024) × (slot < slots) × (meters_length slots ≤ length meters.now) × (k < 8) }
-    ensures { result ≡ (registration_at slots meters.now slot k).category }
-{
-    registration_entry(slots, meters, slot, k, 1)
-}
-
-#[tactic(auto, unfolding(ledger::specs::Store::registration_at))]
-pub fn registration_sender(slots: u64, meters: &[u64], slot: u64, k: u64) -> u64
-    requires { (slots ≤ 1024) × (slot < slots) × (meters_length slots ≤ length meters.now) × (k < 8) }
-    ensures { result ≡ (registration_at slots meters.now slot k).sender }
-{
-    registration_entry(slots, meters, slot, k, 2)
-}
-
-#[tactic(auto, unfolding(ledger::specs::Store::registration_at))]
-pub fn registration_status(slots: u64, meters: &[u64], slot: u64, k: u64) -> u64
-    requires { (slots ≤ 1024) × (slot < slots) × (meters_length slots ≤ length meters.now) × (k < 8) }
-    ensures { result ≡ (registration_at slots meters.now slot k).status }
-{
-    registration_entry(slots, meters, slot, k, 3)
-}
-
-#[tactic(auto, unfolding(ledger::specs::Store::registration_at))]
-pub fn registration_limit(slots: u64, meters: &[u64], slot: u64, k: u64) -> u64
-    requires { (slots ≤ 1024) × (slot < slots) × (meters_length slots ≤ length meters.now) × (k < 8) }
-    ensures { result ≡ (registration_at slots meters.now slot k).limit }
-{
-    registration_entry(slots, meters, slot, k, 4)
-}
-
-// What a search for the latest goes by: the start, or date and minute themselves.
-fn registration_key(slots: u64, meters: &[u64], slot: u64, k: u64, by_start: bool) -> u64
-    requires { (slots ≤ 1024) × (slot < slots) × (meters_length slots ≤ length meters.now) × (k < 8) }
-    ensures { result ≡ key_by by_start (registration_at slots meters.now slot k) }
-{
-    if by_start {
-        return registration_start(slots, meters, slot, k);
-    }
-    registration_moment(slots, meters, slot, k)
-}
-
-fn takes_over(bound: u64, best_key: u64, key: u64) -> bool
-    ensures { result ≡ (leb key bound && leb best_key key) }
-{
-    if bound < key {
-        return false;
-    }
-    best_key <= key
-}
-
-// Which registration of a slot is the latest of those not after a bound; 8 for none. With none yet the best key is 0, which every key
-// reaches.
-#[tactic(auto, unfolding(ledger::specs::Store::registrations_at, crate::specs::Meters::indexed, ledger::specs::Checks::latest_from))]
-fn latest_index(slots: u64, meters: &[u64], slot: u64, by_start: bool, bound: u64) -> u64
-    requires { (slots ≤ 1024) × (slot < slots) × (meters_length slots ≤ length meters.now) }
-    ensures { (result ≤ 8) × (indexed slots meters.now slot result ≡ latest_from (key_by by_start) bound none (registrations_at slots meters.now slot)) }
-{
-    let mut best: u64 = 8;
-    let mut best_key: u64 = 0;
-    let mut k: u64 = 0;
-    while k < 8 {
-        if registration_status(slots, meters, slot, k) == 0 {
-            return best;
+impl<'a> Slot<'a> {
+    // That of an MPAN; an unknown one has none.
+    #[tactic(auto, using(crate::proofs::LentLaws::known_slot, crate::proofs::LentLaws::unknown_slot), unfolding(ledger::specs::Sizes::meters_length))]
+    pub fn of_mpan(slots: u64, meters: &'a [u64], mpan: u64) -> Option<Slot<'a>>
+        requires { (slots ≤ 1024) × (meters_length slots ≤ length meters.now) }
+        ensures { MatchOption result (known_at slots mpan meters.now ≡ false) (λ s. (known_at slots mpan meters.now ≡ true) × (s.slots ≡ slots) × (s.meters.now ≡ meters.now) × (s.slot ≡ slot_of slots mpan meters.now)) }
+    {
+        let slot = slot_of(slots, mpan, meters);
+        if slots <= slot {
+            return None;
         }
-        let key = registration_key(slots, meters, slot, k, by_start);
-        if takes_over(bound, best_key, key) {
-            best = k;
-            best_key = key;
+        if !has_mpan(meters, slot, mpan) {
+            return None;
         }
-        k += 1;
+        Some(Slot {
+            slots,
+            meters,
+            slot,
+        })
     }
-    best
-}
 
-// Which one gives category, status and limit on a date.
-#[tactic(auto, unfolding(ledger::specs::Checks::in_force))]
-pub fn in_force_index(slots: u64, meters: &[u64], slot: u64, date: u64) -> u64
-    requires { (slots ≤ 1024) × (slot < slots) × (meters_length slots ≤ length meters.now) }
-    ensures { (result ≤ 8) × (indexed slots meters.now slot result ≡ in_force date (registrations_at slots meters.now slot)) }
-{
-    latest_index(slots, meters, slot, true, date)
-}
-
-// Which one gives the sender: that of the date's midday.
-#[tactic(auto, unfolding(ledger::specs::Checks::appointed))]
-pub fn appointed_index(slots: u64, meters: &[u64], slot: u64, date: u64) -> u64
-    requires { (slots ≤ 1024) × (slot < slots) × (meters_length slots ≤ length meters.now) × (date < 800) }
-    ensures { (result ≤ 8) × (indexed slots meters.now slot result ≡ appointed date (registrations_at slots meters.now slot)) }
-{
-    latest_index(slots, meters, slot, false, moment_of(date, 720))
-}
-
-#[tactic(auto, unfolding(ledger::specs::Store::registrations_at))]
-pub fn used_count(slots: u64, meters: &[u64], slot: u64) -> u64
-    requires { (slots ≤ 1024) × (slot < slots) × (meters_length slots ≤ length meters.now) }
-    ensures { result ≡ length (registrations_at slots meters.now slot) }
-{
-    let mut k: u64 = 0;
-    while k < 8 {
-        if registration_status(slots, meters, slot, k) == 0 {
-            return k;
+    #[tactic(auto, unfolding(ledger::specs::Store::registration_at))]
+    fn registration(self, k: u64) -> Registration
+        requires { k < 8 }
+        ensures { registration_meant result ≡ registration_at self.entry.slots self.entry.meters.now self.entry.slot k }
+    {
+        let at = registration_index(self.slots, self.slot, k);
+        Registration {
+            moment: entry_at(self.meters, at),
+            category: entry_at(self.meters, at + 1),
+            sender: entry_at(self.meters, at + 2),
+            status: entry_at(self.meters, at + 3),
+            limit: entry_at(self.meters, at + 4),
         }
-        k += 1;
     }
-    8
-}
 
-// Whether a start is not after that of the slot's last registration.
-#[tactic(auto, unfolding(ledger::specs::Store::registrations_at, ledger::specs::Checks::not_after_last))]
-pub fn start_not_after_last(slots: u64, meters: &[u64], slot: u64, start: u64) -> bool
-    requires { (slots ≤ 1024) × (slot < slots) × (meters_length slots ≤ length meters.now) }
-    ensures { result ≡ not_after_last start false (registrations_at slots meters.now slot) }
-{
-    let mut answer = false;
-    let mut k: u64 = 0;
-    while k < 8 {
-        if registration_status(slots, meters, slot, k) == 0 {
-            return answer;
+    #[tactic(auto, using(crate::proofs::Laws::used_turns), unfolding(ledger::specs::Store::registrations_at, ledger::specs::Checks::latest_from))]
+    fn latest(self, key: Key, bound: u64) -> Option<Registration>
+        ensures { found_meant result ≡ latest_from (key_by key) bound none (registrations_at self.entry.slots self.entry.meters.now self.entry.slot) }
+    {
+        let mut best = None;
+        for k in 0..8 {
+            let registration = self.registration(k);
+            if registration.status == 0 {
+                return best;
+            }
+            best = later(key, bound, best, registration);
         }
-        answer = start <= registration_start(slots, meters, slot, k);
-        k += 1;
+        best
     }
-    answer
+
+    // The registration that gives category, status and limit on a date.
+    #[tactic(auto, unfolding(ledger::specs::Checks::in_force))]
+    pub fn in_force(self, date: u64) -> Option<Registration>
+        ensures { found_meant result ≡ in_force date (registrations_at self.entry.slots self.entry.meters.now self.entry.slot) }
+    {
+        self.latest(Key::Start, date)
+    }
+
+    // The one that gives the sender: that of the date's midday.
+    #[tactic(auto, unfolding(ledger::specs::Checks::appointed))]
+    pub fn appointed(self, date: u64) -> Option<Registration>
+        requires { date < 800 }
+        ensures { found_meant result ≡ appointed date (registrations_at self.entry.slots self.entry.meters.now self.entry.slot) }
+    {
+        self.latest(Key::Moment, moment_of(date, 720))
+    }
+
+    // How many are used.
+    #[tactic(auto, using(crate::proofs::Laws::used_turns), unfolding(ledger::specs::Store::registrations_at))]
+    pub fn used(self) -> u64
+        ensures { result ≡ length (registrations_at self.entry.slots self.entry.meters.now self.entry.slot) }
+    {
+        for k in 0..8 {
+            if self.registration(k).status == 0 {
+                return k;
+            }
+        }
+        8
+    }
+
+    // Whether a start is not after that of the slot's last registration.
+    #[tactic(auto, using(crate::proofs::Laws::used_turns), unfolding(ledger::specs::Store::registrations_at, ledger::specs::Checks::not_after_last))]
+    pub fn start_not_after_last(self, start: u64) -> bool
+        ensures { result ≡ not_after_last start false (registrations_at self.entry.slots self.entry.meters.now self.entry.slot) }
+    {
+        let mut answer = false;
+        for k in 0..8 {
+            let registration = self.registration(k);
+            if registration.status == 0 {
+                return answer;
+            }
+            answer = start <= registration.start();
+        }
+        answer
+    }
 }
 
+// Puts the MPAN and registration k. Entry by entry, since the ledger has it as a run of single stores.
 #[tactic(auto, unfolding(ledger::specs::Sizes::meters_length, ledger::specs::Store::put_registration))]
 pub fn put_registration(
     slots: u64,
@@ -223,20 +238,16 @@ pub fn put_registration(
     mpan: u64,
     slot: u64,
     k: u64,
-    moment: u64,
-    category: u64,
-    sender: u64,
-    status: u64,
-    limit: u64,
+    registration: Registration,
 )
     requires { (slots ≤ 1024) × (slot < slots) × (meters_length slots ≤ length meters.old) × (k < 8) }
-    ensures { meters.new ≡ put_registration slots mpan slot k (registration_of moment category sender status limit) meters.old }
+    ensures { meters.new ≡ put_registration slots mpan slot k (registration_meant registration) meters.old }
 {
     let at = registration_index(slots, slot, k);
     put_entry(meters, slot, mpan);
-    put_entry(meters, at, moment);
-    put_entry(meters, at + 1, category);
-    put_entry(meters, at + 2, sender);
-    put_entry(meters, at + 3, status);
-    put_entry(meters, at + 4, limit);
+    put_entry(meters, at, registration.moment);
+    put_entry(meters, at + 1, registration.category);
+    put_entry(meters, at + 2, registration.sender);
+    put_entry(meters, at + 3, registration.status);
+    put_entry(meters, at + 4, registration.limit);
 }

@@ -5,7 +5,7 @@ use Rattle.fill.specs.Asked.{fill_call}
 use Rattle.jihoweka.proofs.Fit.{fill_fits, no_values}
 use Rattle.jihoweka.proofs.jihoweka_fill.Goals as goal
 
-pub of_outcome-requires : goal.of_outcome-requires
-of_outcome-requires c =
+pub numbers_of-requires : goal.numbers_of-requires
+numbers_of-requires c =
     let a = c.args in
     no_values c.fill-outcome.result (periods_of a.settings.now) c.fill-outcome.new.filled c.fill-outcome.ensures.answers (fill_fits a.settings.now a.cells.now (fill_call (of_category a.category) a.date a.advance a.missing.now a.filled.now))

@@ -2,7 +2,7 @@
 use Rattle.jihoweka.proofs.Fit.{preview_fits}
 use Rattle.jihoweka.proofs.jihoweka_preview.Goals as goal
 
-pub of_run-requires : goal.of_run-requires
-of_run-requires c =
+pub numbers_of-requires : goal.numbers_of-requires
+numbers_of-requires c =
     let a = c.args in
     rw c.preview-outcome.ensures.result_value (preview_fits a.settings.now a.meters.now a.readings.now a.cells.now a.days.now a.draft.now a.date)

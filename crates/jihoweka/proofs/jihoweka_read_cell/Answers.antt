@@ -3,7 +3,7 @@ use Rattle.std.proofs.Common.{arith}
 use Rattle.jihoweka.proofs.Fit.{cell_fits}
 use Rattle.jihoweka.proofs.jihoweka_read_cell.Goals as goal
 
-pub of_cell-requires : goal.of_cell-requires
-of_cell-requires c =
+pub numbers_of-requires : goal.numbers_of-requires
+numbers_of-requires c =
     let a = c.args in
     rw c.read_cell-outcome.ensures (cell_fits a.settings.now a.cells.now (λ i. omega (arith, c.shared_slice_known-2-1.given i)) a.date a.category a.period)

@@ -2,7 +2,7 @@
 use Rattle.jihoweka.proofs.Fit.{coverage_fits}
 use Rattle.jihoweka.proofs.jihoweka_read_coverage.Goals as goal
 
-pub of_coverage-requires : goal.of_coverage-requires
-of_coverage-requires c =
+pub numbers_of-requires : goal.numbers_of-requires
+numbers_of-requires c =
     let a = c.args in
     rw c.read_coverage-outcome.ensures (coverage_fits a.settings.now a.days.now a.date a.category)

@@ -3,5 +3,5 @@ use Rattle.std.proofs.Common.{arith}
 use Rattle.jihoweka.proofs.Fit.{read_fits}
 use Rattle.jihoweka.proofs.jihoweka_read_entry.Goals as goal
 
-pub of_cell-requires : goal.of_cell-requires
-of_cell-requires c = read_fits _ _ c.cell_of_entry.ensures (omega arith)
+pub numbers-requires : goal.numbers-requires
+numbers-requires c = read_fits _ _ c.cell_of_entry-cell.ensures (omega arith)

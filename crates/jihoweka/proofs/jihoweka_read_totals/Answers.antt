@@ -2,7 +2,7 @@
 use Rattle.jihoweka.proofs.Fit.{totals_fits}
 use Rattle.jihoweka.proofs.jihoweka_read_totals.Goals as goal
 
-pub of_totals-requires : goal.of_totals-requires
-of_totals-requires c =
+pub numbers_of-requires : goal.numbers_of-requires
+numbers_of-requires c =
     let a = c.args in
     rw c.read_totals-outcome.ensures (totals_fits a.settings.now a.days.now a.date a.category)

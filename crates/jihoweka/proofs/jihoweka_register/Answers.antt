@@ -3,7 +3,7 @@ use Rattle.registration.specs.Registration.{registration_call}
 use Rattle.jihoweka.proofs.Fit.{registration_fits}
 use Rattle.jihoweka.proofs.jihoweka_register.Goals as goal
 
-pub of_outcome-requires : goal.of_outcome-requires
-of_outcome-requires c =
+pub numbers_of-requires : goal.numbers_of-requires
+numbers_of-requires c =
     let a = c.args in
     rw c.register-outcome.ensures.answered (registration_fits a.settings.now a.meters.now a.readings.now (registration_call a.mpan a.date a.minute a.category a.sender a.status a.limit))

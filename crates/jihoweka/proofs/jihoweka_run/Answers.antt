@@ -2,7 +2,7 @@
 use Rattle.jihoweka.proofs.Fit.{run_fits}
 use Rattle.jihoweka.proofs.jihoweka_run.Goals as goal
 
-pub of_run-requires : goal.of_run-requires
-of_run-requires c =
+pub numbers_of-requires : goal.numbers_of-requires
+numbers_of-requires c =
     let a = c.args in
     rw c.run-outcome.ensures.result_value (run_fits a.settings.now a.meters.now a.readings.now a.cells.now a.days.now a.date)

@@ -1,21 +1,19 @@
 -- `later_rows::copy_row` meets its contract: the first k entries are copied.
-use Rattle.std.proofs.Common.{refl, sym, ap, ◌∙◌, List, arith, length, length-set}
+use Rattle.std.proofs.Common.{refl, sym, ap, ◌∙◌, List, arith, length}
 use lib.Seq.{take-length}
 use Rattle.ledger.specs.Calls.{overwritten}
 use Rattle.ledger.proofs.Lists.{filling_zero, fill, front_filled}
 use Rattle.later_rows.proofs.copy_row.Goals as goal
 
 pub loop-k-init : goal.loop-k-init
-loop-k-init c = (omega arith, refl, sym (filling_zero _ _))
+loop-k-init c = sym (filling_zero _ _)
 
 pub loop-k-preserved : goal.loop-k-preserved
-loop-k-preserved c =
-    let l = c.loop-k in
-    (omega arith, simp length-set (omega arith), fill _ _ l.copy l.k _ l.invariant.2 (omega arith) refl)
+loop-k-preserved c = fill _ _ _ c.loop-k.k _ c.loop-k.invariant (omega arith) refl
 
 pub returns : goal.returns
 returns c =
     let l = c.loop-k in
     let a = c.args in
-    front_filled 0 (length a.row.now) l.k a.row.now a.copy.now l.copy l.invariant.2 (omega arith) (omega arith)
+    front_filled 0 (length a.row.now) l.k a.row.now a.copy.now l.copy l.invariant (omega arith) (omega arith)
     ∙ ap (λ (xs : List _). overwritten xs a.copy.now) (take-length a.row.now)

@@ -20,31 +20,31 @@ silent WriteFailed n = refl
 pub returns-in-SaidBad-clause-exchanged : goal.returns-in-SaidBad-clause-exchanged
 returns-in-SaidBad-clause-exchanged c =
     let p = c.say_bad.ensures in
-    refilled c.args.session c.say_bad.result c.args.input.now c.shift.new.block c.read_some-got.new.block _ c.count-fresh.result _
+    refilled c.args.session c.say_bad.result c.args.input.now c.shift.new.block c.read_some.new.block _ _ _
     c.requires.block_bounds.0
     c.requires.block_bounds.1
     c.requires.waiting_value.2
     c.shift.ensures
     (omega arith)
     (search rules)
-    c.count-fresh.ensures
+    c.unwrap_or.ensures
     (ap (λ (x : Session). x.at) p.value)
     (ap (λ (x : Session). x.end) p.value)
-    (ap (λ (x : Session). x.stage) p.value ∙ (sym c.in-SaidBad.is ∙ c.stage_after-stage.ensures))
+    (ap (λ (x : Session). x.stage) p.value ∙ (sym c.in-SaidBad.is ∙ c.stage_after.ensures))
     (rw (ap (λ (x : Session). x.stage) p.value) (p.output_after ∙ rw c.requires.waiting_value.0 refl))
 
 pub returns-in_default-clause-exchanged : goal.returns-in_default-clause-exchanged
 returns-in_default-clause-exchanged c =
     let p = c.with_stage.ensures in
-    refilled c.args.session c.with_stage.result c.args.input.now c.shift.new.block c.read_some-got.new.block _ c.count-fresh.result _
+    refilled c.args.session c.with_stage.result c.args.input.now c.shift.new.block c.read_some.new.block _ _ _
     c.requires.block_bounds.0
     c.requires.block_bounds.1
     c.requires.waiting_value.2
     c.shift.ensures
     (omega arith)
     (search rules)
-    c.count-fresh.ensures
+    c.unwrap_or.ensures
     (ap (λ (x : Session). x.at) p)
     (ap (λ (x : Session). x.end) p)
-    (ap (λ (x : Session). x.stage) p ∙ c.stage_after-stage.ensures)
-    (rw p (rw c.requires.waiting_value.0 (silent c.stage_after-stage.result c.in_default.not-SaidBad)))
+    (ap (λ (x : Session). x.stage) p ∙ c.stage_after.ensures)
+    (rw p (rw c.requires.waiting_value.0 (silent c.stage_after.result c.in_default.not-SaidBad)))

@@ -4,7 +4,7 @@ use Rattle.session.specs.declared.held.Session.{Session}
 use Rattle.session.specs.declared.held.Stage.TheVariants.{Full, Short, WriteFailed}
 use Rattle.session.specs.Session.{with_waiting, staged}
 use Rattle.console.specs.Turn.{Flushed}
-use Rattle.console.proofs.Laws.{full_exchanged, short_exchanged, all_written, failed_kept, failed_exchanged, full_not_failed, short_not_failed}
+use Rattle.console.proofs.Laws.{full_exchanged, short_exchanged, all_written, failed_kept, failed_exchanged}
 use Rattle.console.proofs.dialogue.exchange.Goals as goal
 
 -- at any other stage a write failed
@@ -21,13 +21,13 @@ failed session sent stage flushed not_full not_short =
 pub returns-in-Full-clause-exchanged : goal.returns-in-Full-clause-exchanged
 returns-in-Full-clause-exchanged c =
     let session = c.args.session in
-    let w = all_written session c.flush-sent.result c.flush-sent.ensures Full c.in-Full.is full_not_failed in
+    let w = all_written session c.flush-sent.result c.flush-sent.ensures Full c.in-Full.is (λ e. cc) in
     rw c.with_stage.ensures (full_exchanged session c.flush-sent.result w c.args.input.now c.args.output.now c.in-Full.is)
 
 pub returns-in-Short-clause-exchanged : goal.returns-in-Short-clause-exchanged
 returns-in-Short-clause-exchanged c =
     let session = c.args.session in
-    let w = all_written session c.flush-sent.result c.flush-sent.ensures Short c.in-Short.is short_not_failed in
+    let w = all_written session c.flush-sent.result c.flush-sent.ensures Short c.in-Short.is (λ e. cc) in
     short_exchanged session c.flush-sent.result w c.args.input.now _ _ _ _ c.refill.ensures.exchanged
 
 pub returns-in_default : goal.returns-in_default

@@ -1,10 +1,9 @@
--- `sums::sum_all` meets its contract: the first k entries are added, modulo 2 ^ 64.
-use Rattle.std.proofs.Common.{arith}
-use Rattle.day_reads.proofs.Laws.{sum_none, sum_next}
+-- The entries are added one after the other, modulo 2 ^ 64.
+use Rattle.std.proofs.Common.{◌≡◌, ◌+◌, ◌%◌, ◌∙◌, fold, rules}
+use Rattle.day_reads.proofs.Laws.{folded}
 use Rattle.day_reads.proofs.sums.sum_all.Goals as goal
 
-pub loop-k-init : goal.loop-k-init
-loop-k-init c = (omega arith, sum_none _)
-
-pub loop-k-preserved : goal.loop-k-preserved
-loop-k-preserved c = (omega arith, sum_next c.loop-k.k _ _ _ c.loop-k.invariant.1 c.wrapping_add_u64-sum.ensures.value)
+pub returns : goal.returns
+returns c =
+    let is : c.fold.result ≡ fold (λ sum x. (sum + x) % 18446744073709551616) 0 c.args.entries.now = search rules in
+    is ∙ folded c.args.entries.now

@@ -1,9 +1,7 @@
-use Rattle.std.proofs.Common.{◌-◌, ◌≤◌, cond, leb, get_or}
+use Rattle.std.proofs.Common.{cond, leb}
 use Rattle.entries.specs.Sums.{Summed}
+use Rattle.fill.specs.Sharing.{remainder_in}
 use Rattle.fill.proofs.threshold.reaching.Given as goal
 
-abbrev pub invariant-loop-k : goal.invariant-loop-k
-invariant-loop-k l = (l.k ≤ l.periods) × Summed l.k 1 (λ i. cond (leb l.least (get_or l.remainders i 0)) 1 0) l.count
-
-abbrev pub decreases-loop-k : goal.decreases-loop-k
-decreases-loop-k l = l.periods - l.k
+abbrev pub invariant-loop-part : goal.invariant-loop-part
+invariant-loop-part l = Summed l.part-index 1 (λ i. cond (leb l.least (remainder_in l.parts i)) 1 0) l.count

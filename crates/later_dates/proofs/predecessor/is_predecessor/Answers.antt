@@ -6,6 +6,7 @@ use Rattle.later_dates.proofs.predecessor.is_predecessor.Goals as goal
 
 pub is_run-requires : goal.is_run-requires
 is_run-requires c =
-    let S = c.args.settings.now in
+    let S = c.args.cells.settings.bytes.now in
+    let known = ready S c.args.cells.settings.ready in
     rw c.row_length.ensures
-    (omega (arith, row_fits S c.args.cells.now c.args.date c.requires.settings_value.1 c.requires.date_bound, row_bounds S (ready S c.requires.settings_value.0), periods_bound S (ready S c.requires.settings_value.0)))
+    (omega (arith, row_fits S c.args.cells.entries.now c.args.date c.args.cells.long c.requires, row_bounds S known, periods_bound S known))

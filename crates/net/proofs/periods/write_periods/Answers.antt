@@ -6,7 +6,7 @@ use Rattle.net.proofs.SideLaws.{as_figure}
 use Rattle.net.proofs.periods.write_periods.Goals as goal
 
 pub loop-k-init : goal.loop-k-init
-loop-k-init c = (omega arith, sym (filling_zero _ _), sym (filling_zero _ _), none_yet _ _, none_yet _ _)
+loop-k-init c = (sym (filling_zero _ _), sym (filling_zero _ _), none_yet _ _, none_yet _ _)
 
 pub loop-k-preserved : goal.loop-k-preserved
 loop-k-preserved c =
@@ -15,11 +15,10 @@ loop-k-preserved c =
     let taken = c.loop-k-test.true in
     let plus = c.side_sum-plus.ensures in
     let minus = c.side_sum-minus.ensures in (
-      omega (arith, taken),
       c.put_net.ensures
-          ∙ fill _ _ loop.numbers loop.k _ loop.invariant.1 (omega (arith, taken, pre.3)) (ap₂ (λ x y. pos x -ℤ pos y) plus.values.is minus.values.is),
+          ∙ fill _ _ loop.numbers loop.k _ loop.invariant.0 (omega (arith, taken, pre.3)) (ap₂ (λ x y. pos x -ℤ pos y) plus.values.is minus.values.is),
       c.put_mark.ensures
-          ∙ fill _ _ loop.marks loop.k _ loop.invariant.2 (omega (arith, taken, pre.4)) (ap₂ (λ x y. cond (eqb (x + y) 0) 0 1) plus.blank.is minus.blank.is),
-      one_more loop.invariant.3 (as_figure plus.values pre.1.few),
-      one_more loop.invariant.4 (as_figure minus.values pre.2.few),
+          ∙ fill _ _ loop.marks loop.k _ loop.invariant.1 (omega (arith, taken, pre.4)) (ap₂ (λ x y. cond (eqb (x + y) 0) 0 1) plus.blank.is minus.blank.is),
+      one_more loop.invariant.2 (as_figure plus.values pre.1.few),
+      one_more loop.invariant.3 (as_figure minus.values pre.2.few),
     )

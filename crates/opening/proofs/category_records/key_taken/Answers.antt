@@ -1,17 +1,13 @@
--- `category_records::key_taken` meets its contract: the records from n on, up to i, have another key.
-use Rattle.std.proofs.Common.{◌≡◌, sym, ◌∙◌, arith}
-use Rattle.ledger.proofs.Verdicts.{any_zero, any_found, any_passed}
+-- `category_records::key_taken` meets its contract: `any` goes through the numbers below i.
+use Rattle.std.proofs.Common.{◌∙◌, refl, rules, tests, arith}
+use Rattle.std.proofs.lemmas.Iterator.{YieldsList-from_range}
+use Rattle.std.proofs.lemmas.Iterator.Search.{any_from_yields_List}
+use Rattle.ledger.specs.Checks.{same_key}
+use Rattle.opening.proofs.Laws.{any_listed}
 use Rattle.opening.proofs.category_records.key_taken.Goals as goal
 
-pub returns-then-same_key : goal.returns-then-same_key
-returns-then-same_key c =
-    let l = c.loop-n in
-    sym (any_found l.n _ c.loop-n-test.true (sym c.same_key.ensures ∙ c.if-same_key.true)) ∙ l.invariant.1
-
-pub loop-n-preserved : goal.loop-n-preserved
-loop-n-preserved c =
-    let l = c.loop-n in
-    (omega arith, sym (any_passed l.n _ c.loop-n-test.true (sym c.same_key.ensures ∙ c.if-same_key.false)) ∙ l.invariant.1)
-
 pub returns : goal.returns
-returns c = let z : c.loop-n.n ≡ 0 = omega arith in sym (any_zero _) ∙ rw z at c.loop-n.invariant.1
+returns c =
+    let a = c.args in
+    any_from_yields_List (λ k. same_key a.records.now k a.i) _ _ c.any.result c.any.ensures.ran (YieldsList-from_range _ _ a.i refl (omega arith)) (λ x b q k. search (rules, tests))
+    ∙ any_listed _ a.i

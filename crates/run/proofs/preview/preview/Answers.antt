@@ -1,62 +1,52 @@
 -- `run::preview::preview` meets its contract: a refusal leaves the draft, an accepted preview has at its front what a run leaves of the date.
-use Rattle.std.proofs.Common.{◌≤◌, ◌≡◌, sym, ap, ◌∙◌, length, length-take-le}
+use Rattle.std.proofs.Common.{◌≤◌, sym, ap, ◌∙◌, length, length-take-le}
 use Rattle.ledger.specs.Ledger.{moved}
 use Rattle.ledger.specs.Store.{row_length}
-use Rattle.ledger.specs.Calls.{preview_verdict}
 use Rattle.ledger.proofs.Choices.{MayRun, accepted_preview}
-use Rattle.ledger.proofs.Verdicts.{refused_is, kept_is, given_is, after_is}
-use Rattle.run.proofs.Laws.{preview_place, foreseen, drawn_front}
+use Rattle.ledger.proofs.Lists.{tabulate_ext}
+use Rattle.store.proofs.Refusals.{given_at, after_at}
+use Rattle.run.proofs.Laws.{rows_there, moved_is, foreseen, drawn_front}
 use Rattle.run.proofs.preview.preview.Goals as goal
-use Rattle.run.proofs.preview.preview.Goals.{Else-number-ne0}
+use Rattle.run.proofs.preview.preview.Goals.{In_ok-cells, After-row_length-length}
 
-accepted : (c : Else-number-ne0) → let a = c.args in
+accepted : (c : In_ok-cells) → let a = c.args in
     MayRun a.settings.now a.meters.now a.readings.now a.cells.now a.days.now a.date × (row_length a.settings.now ≤ length a.draft.now)
 accepted c =
     let a = c.args in
-    accepted_preview a.settings.now a.meters.now a.readings.now a.cells.now a.days.now a.draft.now a.date (sym c.preview_number-number.ensures ∙ c.if-number-ne0.false)
+    accepted_preview a.settings.now a.meters.now a.readings.now a.cells.now a.days.now a.draft.now a.date (sym c.in_ok-cells.ensures.number)
 
-pub returns-then-number-ne0-clause-result_value : goal.returns-then-number-ne0-clause-result_value
-returns-then-number-ne0-clause-result_value c =
+front : (c : After-row_length-length) → c.row_length-length.result ≤ length c.args.draft.now
+front c =
     let a = c.args in
-    let v = preview_verdict a.settings.now a.meters.now a.readings.now a.cells.now a.days.now a.draft.now a.date in
-    let is : c.preview_number-number.result ≡ v.number = c.preview_number-number.ensures in
-    refused_is v _ is _ (preview_place a.settings.now a.meters.now a.readings.now a.cells.now a.days.now a.draft.now a.date) c.if-number-ne0.true
+    rw (c.row_length-length.ensures, c.in_ok-cells.ensures.lent.0) (accepted_preview a.settings.now a.meters.now a.readings.now a.cells.now a.days.now a.draft.now a.date (sym c.in_ok-cells.ensures.number)).1
 
-pub returns-then-number-ne0-clause-draft_after : goal.returns-then-number-ne0-clause-draft_after
-returns-then-number-ne0-clause-draft_after c =
-    let a = c.args in
-    let v = preview_verdict a.settings.now a.meters.now a.readings.now a.cells.now a.days.now a.draft.now a.date in
-    let is : c.preview_number-number.result ≡ v.number = c.preview_number-number.ensures in
-    kept_is v _ is _ _ c.if-number-ne0.true
+pub gather-requires-clause-by_index : goal.gather-requires-clause-by_index
+gather-requires-clause-by_index c =
+    (rows_there _ c.in_ok-cells.cells.settings.ready).1
 
-pub row_length-length-requires : goal.row_length-length-requires
-row_length-length-requires c = (accepted (goal.at.row_length-length-requires c).Else-number-ne0).0.0
+pub slice_bounds-draw-end-5 : goal.slice_bounds-draw-end-5
+slice_bounds-draw-end-5 c =
+    sym (length-take-le c.row_length-length.result _ (front (goal.at.slice_bounds-draw-end-5 c).After-row_length-length))
 
-pub slice_bounds-preview_accepted-end : goal.slice_bounds-preview_accepted-end
-slice_bounds-preview_accepted-end c = rw c.row_length-length.ensures (accepted (goal.at.slice_bounds-preview_accepted-end c).Else-number-ne0).1
-
-pub slice_bounds-preview_accepted-end-2 : goal.slice_bounds-preview_accepted-end-2
-slice_bounds-preview_accepted-end-2 c =
-    sym (length-take-le c.row_length-length.result _ (rw c.row_length-length.ensures (accepted (goal.at.slice_bounds-preview_accepted-end-2 c).Else-number-ne0).1))
-
-pub preview_accepted-requires : goal.preview_accepted-requires
-preview_accepted-requires c =
-    let (ok, long) = accepted (goal.at.preview_accepted-requires c).Else-number-ne0 in
-    (ok.0, ok.1, ok.2, ok.3, ok.5, length-take-le c.row_length-length.result _ (rw c.row_length-length.ensures long) ∙ c.row_length-length.ensures)
+pub draw-requires-clause-settings_value : goal.draw-requires-clause-settings_value
+draw-requires-clause-settings_value c =
+    let ok = (accepted (goal.at.draw-requires-clause-settings_value c).In_ok-cells).0 in
+    (rw c.in_ok-cells.ensures.lent.0 ok.5, length-take-le c.row_length-length.result _ (front (goal.at.draw-requires-clause-settings_value c).After-row_length-length) ∙ c.row_length-length.ensures)
 
 pub returns-clause-result_value : goal.returns-clause-result_value
 returns-clause-result_value c =
     let a = c.args in
-    let v = preview_verdict a.settings.now a.meters.now a.readings.now a.cells.now a.days.now a.draft.now a.date in
-    let is : c.preview_number-number.result ≡ v.number = c.preview_number-number.ensures in
-    let ok = (accepted (goal.at.returns-clause-result_value c).Else-number-ne0).0 in
-    ap moved (c.preview_accepted.ensures.value ∙ foreseen a.settings.now a.meters.now a.readings.now a.cells.now a.days.now a.date ok) ∙ given_is v _ is _ c.if-number-ne0.false
+    let ok = (accepted (goal.at.returns-clause-result_value c).In_ok-cells).0 in
+    let lent = c.in_ok-cells.ensures.lent in
+    ap moved (rw (lent.0, lent.1) at (c.draw.ensures.value ∙ moved_is c.in_ok-cells.cells.settings.bytes.now a.meters.now a.readings.now c.in_ok-cells.cells.entries.now _ a.date c.gather.ensures.by_index_2)
+    ∙ foreseen a.settings.now a.meters.now a.readings.now a.cells.now a.days.now a.date ok)
+    ∙ given_at _ c.in_ok-cells.ensures.number _
 
 pub returns-clause-draft_after : goal.returns-clause-draft_after
 returns-clause-draft_after c =
     let a = c.args in
-    let v = preview_verdict a.settings.now a.meters.now a.readings.now a.cells.now a.days.now a.draft.now a.date in
-    let is : c.preview_number-number.result ≡ v.number = c.preview_number-number.ensures in
-    let ok = (accepted (goal.at.returns-clause-draft_after c).Else-number-ne0).0 in
-    drawn_front a.settings.now a.meters.now a.readings.now a.cells.now a.days.now a.date ok _ a.draft.now _ c.preview_accepted.ensures.row_after c.row_length-length.ensures
-    ∙ after_is v _ is _ _ c.if-number-ne0.false
+    let ok = (accepted (goal.at.returns-clause-draft_after c).In_ok-cells).0 in
+    let lent = c.in_ok-cells.ensures.lent in
+    drawn_front a.settings.now a.meters.now a.readings.now a.cells.now a.days.now a.date ok _ a.draft.now _
+    (rw (lent.0, lent.1) at (c.draw.ensures.row_after ∙ tabulate_ext (row_length c.in_ok-cells.cells.settings.bytes.now) _ _ c.gather.ensures.by_index_2)) (c.row_length-length.ensures ∙ ap row_length lent.0)
+    ∙ after_at _ c.in_ok-cells.ensures.number _ _

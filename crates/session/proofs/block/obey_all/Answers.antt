@@ -1,29 +1,18 @@
 -- `obey_all` meets its contract: the program's progress so far, command by command.
-use Rattle.std.proofs.Common.{◌≡◌, sym, ◌∙◌, true, arith}
-use Rattle.session.specs.Session.{is_going}
-use Rattle.session.proofs.Laws.{going_only, obeyed_then}
+use Rattle.std.proofs.Common.{sym, ◌∙◌, arith}
+use Rattle.session.proofs.Laws.{going_only, obeyed_then, same_lent_then, same_setup}
 use Rattle.session.proofs.block.obey_all.Goals as goal
-use Rattle.session.proofs.block.obey_all.Goals.{In-loop-going}
 
--- the stage that the loop goes on at
-going : (c : In-loop-going) → is_going c.loop-going.next.stage ≡ true
-going c = sym c.loop-going.invariant.3 ∙ c.loop-going-test.true
-
-pub loop-going-preserved : goal.loop-going-preserved
-loop-going-preserved c =
-    let inv = c.loop-going.invariant in
-    let same = c.obey_next-next.ensures.same_input.0 in (
-      rw (inv.5, inv.6, inv.7) at c.obey_next-next.ensures.held_2,
-      c.obey_next-next.ensures.same_input.1,
-      (omega (arith, inv.2, same), same.1 ∙ inv.2.1, same.2 ∙ inv.2.2),
-      c.is_going-going.ensures,
-      obeyed_then _ (going_only _ (going (goal.at.loop-going-preserved c).In-loop-going)) inv.4 (rw (inv.5, inv.6, inv.7) at c.obey_next-next.ensures.obeyed),
-      omega (arith, c.obey_next-next.auto, inv.5),
-      omega (arith, c.obey_next-next.auto, inv.6),
-      omega (arith, c.obey_next-next.auto, inv.7),
-      omega (arith, c.obey_next-next.auto, inv.8),
-      omega (arith, c.obey_next-next.auto, inv.9),
-      omega (arith, c.obey_next-next.auto, inv.10),
-      omega (arith, c.obey_next-next.auto, inv.11),
-      omega (arith, c.obey_next-next.auto, inv.12),
-    )
+pub commands-preserved : goal.commands-preserved
+commands-preserved c =
+    let so_far = c.commands.invariant in
+    let same = so_far.same_lent in
+    let next = c.obey_next-next.ensures in
+    let moved = next.same_input.0 in
+    record {
+      held = rw (c.commands.auto.output, same.category_room, same.day_type_room) at next.held_2;
+      bounds = next.same_input.1;
+      same_input = (omega (arith, so_far.same_input, moved), moved.1 ∙ so_far.same_input.1, moved.2 ∙ so_far.same_input.2);
+      same_lent = same_lent_then same next.same_lent;
+      obeyed = obeyed_then _ (going_only _ (sym c.commands-test.ensures)) so_far.obeyed (rw (c.commands.auto.output, same_setup same) at next.obeyed);
+    }

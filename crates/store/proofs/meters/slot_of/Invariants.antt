@@ -1,9 +1,6 @@
-use Rattle.std.proofs.Common.{◌-◌, ◌≤◌, ◌≡◌}
+use Rattle.std.proofs.Common.{◌-◌, ◌≡◌}
 use Rattle.ledger.specs.Store.{slot_from, slot_of}
 use Rattle.store.proofs.meters.slot_of.Given as goal
 
 abbrev pub invariant-loop-i : goal.invariant-loop-i
-invariant-loop-i l = (l.i ≤ l.slots) × (slot_from l.mpan l.meters (l.slots - l.i) l.i ≡ slot_of l.slots l.mpan l.meters)
-
-abbrev pub decreases-loop-i : goal.decreases-loop-i
-decreases-loop-i l = l.slots - l.i
+invariant-loop-i l = slot_from l.mpan l.meters (l.slots - l.i) l.i ≡ slot_of l.slots l.mpan l.meters

@@ -1,7 +1,0 @@
--- `column_of` meets its contract.
-use Rattle.std.proofs.Common.{arith}
-use Rattle.ledger.proofs.Ready.{ready}
-use Rattle.store.proofs.column.column_of.Goals as goal
-
-pub category_count-requires : goal.category_count-requires
-category_count-requires c = let k = ready _ c.requires in omega arith
