@@ -1,4 +1,4 @@
--- Laws of texts: the digits of a number, and what they read back as.
+-- Laws of texts: one appended behind another, the digits of a number, and what they read back as.
 use Prim.Native.Nat.{ℕ, zero, suc, ◌+◌, ◌-◌, ◌*◌, ◌/◌, ◌%◌, ◌^◌, ◌≤◌, ◌<◌}
 use mathlib.Core.Path.{◌≡◌, refl, ◌∙◌}
 use mathlib.Core.Bool.{cond}
@@ -14,10 +14,32 @@ use borrow.Author.Tests.{lt-ltb, le-ltb, ne_eqb, leb-true, leb-false}
 use Rattle.io.specs.Digits.{last_digits, IsDigitCount}
 use Rattle.output.specs.Text.{Appended, decimal_in, decimal_text, energy_text, read_from, read_back}
 
+-- ---- appending
+
+pub part_appended : (out text part left : List ℕ) (at n : ℕ) → at ≤ length out → n ≡ length text → part ≡ take (length text) text ++ left → (rest : List ℕ) → Appended out at (take at out ++ (part ++ rest)) (at + n) text
+part_appended out text part left at n h e q rest =
+    let long : length (take at out ++ text) ≡ at + n = length-append (take at out) text ∙ rw (length-take-le at out h, e) refl in
+    record {
+      end = rw e;
+      held = rw (q, take-length text, append_assoc text left rest, ← append_assoc (take at out) text (left ++ rest))
+          (take_at (take at out ++ text) (left ++ rest) (at + n) long);
+    }
+
+pub byte_appended : (out : List ℕ) (at b : ℕ) → at < length out → Appended out at (set out at b) (at + 1) (b ∷ [])
+byte_appended out at b h = record { end = refl; held = rw add-one (take-suc-set out at b h) }
+
+pub join : {before middle after : List ℕ} {at r s : ℕ} {one two : List ℕ} → Appended before at middle r one → Appended middle r after s two → Appended before at after s (one ++ two)
+join {before} {middle} {after} {at} {r} {s} {one} {two} a b =
+    record {
+      end = omega (arith, a.end, b.end, length-append one two);
+      held = b.held ∙ rw a.held (append_assoc (take at before) one two);
+    }
+
 -- what stands behind the blank
-pub behind_blank : (xs text : List ℕ) → drop (length xs + 1) (xs ++ (32 ∷ text)) ≡ text
-behind_blank xs text =
-    rw (← append_snoc xs 32 text) (drop_at (xs ++ (32 ∷ [])) text (length xs + 1) (length-append xs (32 ∷ [])))
+pub behind_blank : (before after : List ℕ) (at r : ℕ) (text : List ℕ) → at ≤ length before → Appended before at after r (32 ∷ text) → drop (at + 1) (take r after) ≡ text
+behind_blank before after at r text h a =
+    rw (a.held, ← append_snoc (take at before) 32 text)
+    (drop_at (take at before ++ (32 ∷ [])) text (at + 1) (length-append (take at before) (32 ∷ []) ∙ rw (length-take-le at before h) refl))
 
 -- ---- the digits
 
@@ -57,9 +79,9 @@ digits_decimal (suc most) (suc (suc k)) n h f =
     let digit : n % 10 < 10 = omega arith in
     simp (digits_decimal most (suc k) (n / 10) (omega arith) (fewest_tenth n k f), le-ltb n 10 large, lt-ltb (n % 10) 10 digit)
 
-pub decimal_is : {text : List ℕ} (n k : ℕ) → n < 18446744073709551616 → IsDigitCount 10 1 n k → text ≡ last_digits 10 k n → text ≡ decimal_text n
+pub decimal_appended : {before after text : List ℕ} {at r : ℕ} (n k : ℕ) → n < 18446744073709551616 → IsDigitCount 10 1 n k → text ≡ last_digits 10 k n → Appended before at after r text → Appended before at after r (decimal_text n)
 unfolding decimal_text
-decimal_is n k h f e = e ∙ digits_decimal 20 k n (digits_bound n k h f) f
+decimal_appended n k h f e a = rw (e, digits_decimal 20 k n (digits_bound n k h f) f) at a
 
 -- ---- reading back
 

@@ -2,5 +2,4 @@
 #![tactic(auto)]
 
 pub mod append;
-pub mod line;
 pub mod lines;

@@ -38,7 +38,7 @@ pub fn obey(session: Session, command: &[u8], output: &mut [u8], lent: &mut Lent
             let category_records = &*category_records;
             let day_types = &mut *lent.day_types;
             let day_types = &*day_types;
-            let line = commands::open(
+            next.waiting = commands::open(
                 command,
                 &category_records[..session.category_bytes],
                 &day_types[..session.day_types],
@@ -48,22 +48,24 @@ pub fn obey(session: Session, command: &[u8], output: &mut [u8], lent: &mut Lent
                 lent.cells,
                 lent.days,
                 capacity,
+                output,
+                session.waiting,
             );
-            next.waiting = append(output, session.waiting, line.as_slice());
             next.category_bytes = 0;
             next.day_types = 0;
         }
         _ => {
             let settings = &mut *lent.settings;
-            let line = commands::ask(
+            next.waiting = commands::ask(
                 command,
                 &settings[..],
                 lent.meters,
                 lent.readings,
                 lent.cells,
                 lent.days,
+                output,
+                session.waiting,
             );
-            next.waiting = append(output, session.waiting, line.as_slice());
         }
     }
     next

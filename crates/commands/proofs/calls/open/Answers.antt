@@ -16,11 +16,11 @@ parts c = let a = c.args in parts_of a.settings.now a.meters.now a.readings.now 
 suffices : (c : After-parts_suffice) → c.parts_suffice.result ≡ suffices_for c.args.capacity (asked c)
 suffices c = rw c.opening_operands-given.ensures at c.parts_suffice.ensures
 
-pub returns-then-parts_suffice-clause-line : goal.returns-then-parts_suffice-clause-line
-returns-then-parts_suffice-clause-line c =
-    let enough = sym (suffices (goal.at.returns-then-parts_suffice-clause-line c).After-parts_suffice) ∙ c.if-parts_suffice.true in
+pub returns-then-parts_suffice-clause-appended : goal.returns-then-parts_suffice-clause-appended
+returns-then-parts_suffice-clause-appended c =
+    let enough = sym (suffices (goal.at.returns-then-parts_suffice-clause-appended c).After-parts_suffice) ∙ c.if-parts_suffice.true in
     let opened = rw c.opening_operands-given.ensures at c.open-outcome.ensures in
-    lent_line c.args.capacity (parts (goal.at.returns-then-parts_suffice-clause-line c).After-parts_suffice) (asked (goal.at.returns-then-parts_suffice-clause-line c).After-parts_suffice) enough opened c.answer_line.ensures
+    lent_line c.args.capacity (parts (goal.at.returns-then-parts_suffice-clause-appended c).After-parts_suffice) (asked (goal.at.returns-then-parts_suffice-clause-appended c).After-parts_suffice) enough opened c.answer_line.ensures.appended
 
 pub returns-then-parts_suffice-clause-days_after : goal.returns-then-parts_suffice-clause-days_after
 returns-then-parts_suffice-clause-days_after c =
@@ -28,11 +28,11 @@ returns-then-parts_suffice-clause-days_after c =
     let opened = rw c.opening_operands-given.ensures at c.open-outcome.ensures in
     lent_parts c.args.capacity (parts (goal.at.returns-then-parts_suffice-clause-days_after c).After-parts_suffice) (asked (goal.at.returns-then-parts_suffice-clause-days_after c).After-parts_suffice) refl enough opened
 
-pub returns-clause-line : goal.returns-clause-line
-returns-clause-line c =
-    let short = sym (suffices (goal.at.returns-clause-line c).After-parts_suffice) ∙ c.if-parts_suffice.false in
+pub returns-clause-appended : goal.returns-clause-appended
+returns-clause-appended c =
+    let short = sym (suffices (goal.at.returns-clause-appended c).After-parts_suffice) ∙ c.if-parts_suffice.false in
     let opened = rw c.opening_operands-given.ensures at c.open-outcome-2.ensures in
-    kept_line c.args.capacity (parts (goal.at.returns-clause-line c).After-parts_suffice) (asked (goal.at.returns-clause-line c).After-parts_suffice) short opened c.answer_line-2.ensures
+    kept_line c.args.capacity (parts (goal.at.returns-clause-appended c).After-parts_suffice) (asked (goal.at.returns-clause-appended c).After-parts_suffice) short opened c.answer_line-2.ensures.appended
 
 pub returns-clause-days_after : goal.returns-clause-days_after
 returns-clause-days_after c =
