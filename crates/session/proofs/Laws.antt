@@ -10,7 +10,6 @@ use lib.Seq.{length-take-le, take-take, drop-drop, take-nil}
 use borrow.Author.Tests.{not-false}
 use Rattle.input.specs.Form.{extent_of, is_overfull}
 use Rattle.input.specs.declared.extent.Extent.TheVariants.{Whole}
-use Rattle.output.specs.Text.{Appended}
 use Rattle.commands.specs.Commands.{State, code, line_for}
 use Rattle.commands.specs.Program.{behind, Setup, store_program}
 use Rattle.commands.specs.declared.capacity.Capacity.{Capacity}
@@ -64,6 +63,11 @@ same_lent_then p q =
       days = q.days ∙ p.days;
       category_room = q.category_room ∙ p.category_room;
       day_type_room = q.day_type_room ∙ p.day_type_room;
+      settings_room = q.settings_room ∙ p.settings_room;
+      meter_room = q.meter_room ∙ p.meter_room;
+      reading_room = q.reading_room ∙ p.reading_room;
+      cell_room = q.cell_room ∙ p.cell_room;
+      day_room = q.day_room ∙ p.day_room;
       capacity = q.capacity ∙ p.capacity;
     }
 
@@ -128,7 +132,3 @@ module _ (g : Setup) where
         printed = rw (before, append_assoc waited a.gathered (b.gathered ++ last_line stage), ← append_assoc a.gathered b.gathered (last_line stage)) at b.printed;
         because = b.because;
       }
-
--- a line put behind what waits, where it is the text
-pub line_behind : {before after part line text : List ℕ} {at r : ℕ} → part ≡ line → line ≡ text → Appended before at after r part → take r after ≡ take at before ++ text
-line_behind p e put = rw (← e, ← p) put.held

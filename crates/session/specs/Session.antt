@@ -98,6 +98,11 @@ pub record SameLent (lent later : Lent) : Type 0 where
   pub days : later.days.ghost_name ≡ lent.days.ghost_name
   pub category_room : length later.category_records.now ≡ length lent.category_records.now
   pub day_type_room : length later.day_types.now ≡ length lent.day_types.now
+  pub settings_room : length later.settings.now ≡ length lent.settings.now
+  pub meter_room : length later.meters.now ≡ length lent.meters.now
+  pub reading_room : length later.readings.now ≡ length lent.readings.now
+  pub cell_room : length later.cells.now ≡ length lent.cells.now
+  pub day_room : length later.days.now ≡ length lent.days.now
   pub capacity : later.capacity ≡ lent.capacity
 
 -- the bytes that a session has not yet taken
