@@ -8,7 +8,7 @@ mod sources;
 ghost use Rattle.std.specs.Prelude.{◌≡◌, true, ℕ, ◌<◌, ◌≤◌, length, get_or, IfOk};
 ghost use Rattle.ledger.specs.Method.{blank};
 ghost use Rattle.ledger.specs.Ledger.{answer, left, moved};
-ghost use Rattle.ledger.specs.Store.{cells_ready, days_ready, dates_of, row_length, entry_of};
+ghost use Rattle.ledger.specs.Store.{meters_ready, readings_ready, cells_ready, days_ready, dates_of, row_length, entry_of};
 ghost use Rattle.ledger.specs.Calls.{as_published, publish, as_ran, settled, run_verdict, ran_from};
 ghost use Rattle.run_date.specs.Sums.{Bounded, row_from};
 ghost use Rattle.store.specs.Outcome.{failed_number, run_answer};
@@ -74,21 +74,20 @@ fn settle(
     )
 }
 
-// The rows for sums and counts begin empty, that for what is taken over blank.
-#[tactic(auto, using(store::proofs::Refusals::refused_at, ledger::proofs::Verdicts::left_some, store::proofs::Refusals::number_some, crate::proofs::Laws::run_place, crate::proofs::Laws::rows_there, ledger::proofs::Choices::accepted_run))]
-pub fn run(
-    settings: &[u8],
+// The rows for sums and counts begin empty, that for what is taken over blank. A function of its own, so that a refused run fills none of them.
+#[inline(never)]
+#[tactic(auto, using(crate::proofs::Laws::rows_there))]
+fn run_accepted(
+    settings: Settings,
     meters: &[u64],
     readings: &[u64],
     cells: &mut [u64],
     days: &mut [u64],
     date: u64,
-) -> Result<u64, Refusal>
-    ensures result_value { run_answer result ≡ answer (run_verdict settings.now meters.now readings.now cells.old days.old date) (moved (ran_from settings.now meters.now readings.now cells.old days.old date).moved) }
-    ensures cells_after { cells.new ≡ left (run_verdict settings.now meters.now readings.now cells.old days.old date) cells.old (ran_from settings.now meters.now readings.now cells.old days.old date).published.cells }
-    ensures days_after { days.new ≡ left (run_verdict settings.now meters.now readings.now cells.old days.old date) days.old (ran_from settings.now meters.now readings.now cells.old days.old date).published.days }
+) -> u64
+    requires { (meters_ready settings.bytes.now meters.now ≡ true) × (readings_ready settings.bytes.now readings.now ≡ true) × (cells_ready settings.bytes.now cells.old ≡ true) × (days_ready settings.bytes.now days.old ≡ true) × (date < dates_of settings.bytes.now) }
+    ensures { as_ran cells.new days.new result ≡ ran_from settings.entry.bytes.now meters.now readings.now cells.old days.old date }
 {
-    let settings = check_run(settings, meters, readings, &cells[..], &days[..], date)?;
     let mut sums = [0u64; 6144];
     let mut counts = [0u64; 6144];
     let mut inherited = [BLANK_ENTRY; 6144];
@@ -105,5 +104,22 @@ pub fn run(
         &mut counts,
         &mut inherited,
     );
-    Ok(settle(settings, &sums, &counts, &mut inherited, cells, days, date))
+    settle(settings, &sums, &counts, &mut inherited, cells, days, date)
+}
+
+#[tactic(auto, using(store::proofs::Refusals::refused_at, ledger::proofs::Verdicts::left_some, store::proofs::Refusals::number_some, crate::proofs::Laws::run_place, ledger::proofs::Choices::accepted_run))]
+pub fn run(
+    settings: &[u8],
+    meters: &[u64],
+    readings: &[u64],
+    cells: &mut [u64],
+    days: &mut [u64],
+    date: u64,
+) -> Result<u64, Refusal>
+    ensures result_value { run_answer result ≡ answer (run_verdict settings.now meters.now readings.now cells.old days.old date) (moved (ran_from settings.now meters.now readings.now cells.old days.old date).moved) }
+    ensures cells_after { cells.new ≡ left (run_verdict settings.now meters.now readings.now cells.old days.old date) cells.old (ran_from settings.now meters.now readings.now cells.old days.old date).published.cells }
+    ensures days_after { days.new ≡ left (run_verdict settings.now meters.now readings.now cells.old days.old date) days.old (ran_from settings.now meters.now readings.now cells.old days.old date).published.days }
+{
+    let settings = check_run(settings, meters, readings, &cells[..], &days[..], date)?;
+    Ok(run_accepted(settings, meters, readings, cells, days, date))
 }

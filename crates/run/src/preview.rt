@@ -1,8 +1,8 @@
 // The preview of a run: the date's new row is made in a lent draft, and what would move on later dates is counted.
-ghost use Rattle.std.specs.Prelude.{◌≡◌, [], ℕ, ◌<◌, ◌≤◌, length, get_or, IfOk};
+ghost use Rattle.std.specs.Prelude.{◌≡◌, true, [], ℕ, ◌<◌, ◌≤◌, length, get_or, IfOk};
 ghost use Rattle.ledger.specs.Method.{blank};
 ghost use Rattle.ledger.specs.Ledger.{answer, left, moved};
-ghost use Rattle.ledger.specs.Store.{dates_of, row_length, entry_of};
+ghost use Rattle.ledger.specs.Store.{meters_ready, readings_ready, dates_of, row_length, entry_of};
 ghost use Rattle.ledger.specs.Table.{tabulate};
 ghost use Rattle.ledger.specs.Calls.{as_published, count_only, settled, new_row, ran_from, moved_from, preview_verdict, previewed, overwritten};
 ghost use Rattle.run_date.specs.Sums.{Bounded, row_from};
@@ -66,8 +66,37 @@ fn draw(
     count_later(cells, day, date + 1, moved, inherited, sums)
 }
 
+// A function of its own, like `run_accepted`.
+#[inline(never)]
+#[tactic(auto, using(crate::proofs::Laws::rows_there))]
+fn preview_accepted(
+    cells: Cells,
+    meters: &[u64],
+    readings: &[u64],
+    row: &mut [u64],
+    date: u64,
+) -> u64
+    requires { (meters_ready cells.settings.bytes.now meters.now ≡ true) × (readings_ready cells.settings.bytes.now readings.now ≡ true) × (date < dates_of cells.settings.bytes.now) × (length row.old ≡ row_length cells.settings.bytes.now) }
+    ensures row_after { row.new ≡ tabulate (row_length cells.entry.settings.bytes.now) (new_row cells.entry.settings.bytes.now meters.now readings.now cells.entry.entries.now date) }
+    ensures value { result ≡ moved_from cells.entry.settings.bytes.now meters.now readings.now cells.entry.entries.now date }
+{
+    let mut sums = [0u64; 6144];
+    let mut counts = [0u64; 6144];
+    let mut inherited = [BLANK_ENTRY; 6144];
+    gather(
+        cells,
+        meters,
+        readings,
+        date,
+        &mut sums,
+        &mut counts,
+        &mut inherited,
+    );
+    draw(cells, &mut sums, &counts, &mut inherited, row, date)
+}
+
 // The draft's front becomes the date's row as a run would leave it, and the answer is the run's.
-#[tactic(auto, using(store::proofs::Refusals::refused_at, ledger::proofs::Verdicts::left_some, store::proofs::Refusals::number_some, crate::proofs::Laws::preview_place, crate::proofs::Laws::rows_there, ledger::proofs::Choices::accepted_preview))]
+#[tactic(auto, using(store::proofs::Refusals::refused_at, ledger::proofs::Verdicts::left_some, store::proofs::Refusals::number_some, crate::proofs::Laws::preview_place, ledger::proofs::Choices::accepted_preview))]
 pub fn preview(
     settings: &[u8],
     meters: &[u64],
@@ -81,25 +110,6 @@ pub fn preview(
     ensures draft_after { draft.new ≡ left (preview_verdict settings.now meters.now readings.now cells.now days.now draft.old date) draft.old (overwritten (previewed settings.now meters.now readings.now cells.now days.now date) draft.old) }
 {
     let cells = check_preview(settings, meters, readings, cells, days, &draft[..], date)?;
-    let mut sums = [0u64; 6144];
-    let mut counts = [0u64; 6144];
-    let mut inherited = [BLANK_ENTRY; 6144];
-    gather(
-        cells,
-        meters,
-        readings,
-        date,
-        &mut sums,
-        &mut counts,
-        &mut inherited,
-    );
     let length = row_length(cells.settings) as usize;
-    Ok(draw(
-        cells,
-        &mut sums,
-        &counts,
-        &mut inherited,
-        &mut draft[..length],
-        date,
-    ))
+    Ok(preview_accepted(cells, meters, readings, &mut draft[..length], date))
 }

@@ -3,9 +3,8 @@ use Rattle.std.proofs.Common.{◌≤◌, sym, ap, ◌∙◌, length, length-take
 use Rattle.ledger.specs.Ledger.{moved}
 use Rattle.ledger.specs.Store.{row_length}
 use Rattle.ledger.proofs.Choices.{MayRun, accepted_preview}
-use Rattle.ledger.proofs.Lists.{tabulate_ext}
 use Rattle.store.proofs.Refusals.{given_at, after_at}
-use Rattle.run.proofs.Laws.{rows_there, moved_is, foreseen, drawn_front}
+use Rattle.run.proofs.Laws.{foreseen, drawn_front}
 use Rattle.run.proofs.preview.preview.Goals as goal
 use Rattle.run.proofs.preview.preview.Goals.{In_ok-cells, After-row_length-length}
 
@@ -20,25 +19,22 @@ front c =
     let a = c.args in
     rw (c.row_length-length.ensures, c.in_ok-cells.ensures.lent.0) (accepted_preview a.settings.now a.meters.now a.readings.now a.cells.now a.days.now a.draft.now a.date (sym c.in_ok-cells.ensures.number)).1
 
-pub gather-requires-clause-by_index : goal.gather-requires-clause-by_index
-gather-requires-clause-by_index c =
-    (rows_there _ c.in_ok-cells.cells.settings.ready).1
+pub slice_bounds-preview_accepted-end-2 : goal.slice_bounds-preview_accepted-end-2
+slice_bounds-preview_accepted-end-2 c =
+    sym (length-take-le c.row_length-length.result _ (front (goal.at.slice_bounds-preview_accepted-end-2 c).After-row_length-length))
 
-pub slice_bounds-draw-end-5 : goal.slice_bounds-draw-end-5
-slice_bounds-draw-end-5 c =
-    sym (length-take-le c.row_length-length.result _ (front (goal.at.slice_bounds-draw-end-5 c).After-row_length-length))
-
-pub draw-requires-clause-settings_value : goal.draw-requires-clause-settings_value
-draw-requires-clause-settings_value c =
-    let ok = (accepted (goal.at.draw-requires-clause-settings_value c).In_ok-cells).0 in
-    (rw c.in_ok-cells.ensures.lent.0 ok.5, length-take-le c.row_length-length.result _ (front (goal.at.draw-requires-clause-settings_value c).After-row_length-length) ∙ c.row_length-length.ensures)
+pub preview_accepted-requires : goal.preview_accepted-requires
+preview_accepted-requires c =
+    let ok = (accepted (goal.at.preview_accepted-requires c).In_ok-cells).0 in
+    let lent = c.in_ok-cells.ensures.lent.0 in
+    (rw lent ok.1, rw lent ok.2, rw lent ok.5, length-take-le c.row_length-length.result _ (front (goal.at.preview_accepted-requires c).After-row_length-length) ∙ c.row_length-length.ensures)
 
 pub returns-clause-result_value : goal.returns-clause-result_value
 returns-clause-result_value c =
     let a = c.args in
     let ok = (accepted (goal.at.returns-clause-result_value c).In_ok-cells).0 in
     let lent = c.in_ok-cells.ensures.lent in
-    ap moved (rw (lent.0, lent.1) at (c.draw.ensures.value ∙ moved_is c.in_ok-cells.cells.settings.bytes.now a.meters.now a.readings.now c.in_ok-cells.cells.entries.now _ a.date c.gather.ensures.by_index_2)
+    ap moved (rw (lent.0, lent.1) at c.preview_accepted.ensures.value
     ∙ foreseen a.settings.now a.meters.now a.readings.now a.cells.now a.days.now a.date ok)
     ∙ given_at _ c.in_ok-cells.ensures.number _
 
@@ -48,5 +44,5 @@ returns-clause-draft_after c =
     let ok = (accepted (goal.at.returns-clause-draft_after c).In_ok-cells).0 in
     let lent = c.in_ok-cells.ensures.lent in
     drawn_front a.settings.now a.meters.now a.readings.now a.cells.now a.days.now a.date ok _ a.draft.now _
-    (rw (lent.0, lent.1) at (c.draw.ensures.row_after ∙ tabulate_ext (row_length c.in_ok-cells.cells.settings.bytes.now) _ _ c.gather.ensures.by_index_2)) (c.row_length-length.ensures ∙ ap row_length lent.0)
+    (rw (lent.0, lent.1) at c.preview_accepted.ensures.row_after) (c.row_length-length.ensures ∙ ap row_length lent.0)
     ∙ after_at _ c.in_ok-cells.ensures.number _ _
