@@ -1,16 +1,17 @@
 // The meters part: MPANs first, so that the search reads one stretch, then eight registrations a slot.
-ghost use Rattle.std.specs.Prelude.{◌≡◌, true, false, ◌+◌, ◌<◌, ◌≤◌, eqb, length, MatchOption};
+ghost use Rattle.std.specs.Prelude.{◌≡◌, true, false, ◌&&◌, ◌+◌, ◌<◌, ◌≤◌, leb, eqb, length, IfSome, MatchOption};
 ghost use Rattle.std.proofs.Math.Option.{none};
-ghost use Rattle.store.specs.Meters.{registration_meant, found_meant, key_by};
+ghost use Rattle.store.specs.Meters.{registration_meant, found_meant, placed, key_by};
 ghost use Rattle.ledger.specs.Sizes.{meters_length};
-ghost use Rattle.ledger.specs.Checks.{moment_of, start_of, starts, later, latest_from, in_force, appointed, not_after_last};
+ghost use Rattle.ledger.specs.Checks.{moment_of, start_of, starts, latest_from, in_force, appointed, not_after_last};
 ghost use Rattle.ledger.specs.Store.{mpan_at, slot_of, known_at, registration_at, registration_index, registrations_at, put_registration};
 
 use crate::access::{entry_at, put_entry};
 
 // The first slot that has the MPAN or is free, else the number of slots: that, and no `None`, since the ledger's `slot_of` and what
-// callers promise say "the number of slots" too.
+// callers promise say "the number of slots" too. Not inlined, since the search would then carry on what the caller makes of the slot.
 #[tactic(auto, using(crate::proofs::Laws::slot_turns), unfolding(ledger::specs::Store::slot_of))]
+#[inline(never)]
 pub fn slot_of(slots: u64, mpan: u64, meters: &[u64]) -> u64
     requires { slots ≤ length meters.now }
     ensures { result ≡ slot_of slots mpan meters.now }
@@ -91,24 +92,11 @@ impl Key {
     }
 }
 
-// What a search has found after one more registration: of those not past the bound the latest, of equals the one that came last.
-#[tactic(auto, unfolding(ledger::specs::Checks::later))]
-fn later(
-    key: Key,
-    bound: u64,
-    best: Option<Registration>,
-    next: Registration,
-) -> Option<Registration>
-    ensures { found_meant result ≡ later (key_by key) bound (found_meant best) (registration_meant next) }
+// Whether the next key takes over: it is not past the bound, and of equals the one that came last is taken.
+fn takes_over(bound: u64, best_key: u64, key: u64) -> bool
+    ensures { result ≡ (leb key bound && leb best_key key) }
 {
-    if bound < key.of(next) {
-        return best;
-    }
-    if best.is_none_or(|kept| key.of(kept) <= key.of(next)) {
-        Some(next)
-    } else {
-        best
-    }
+    key <= bound && best_key <= key
 }
 
 // All five entries of a registration are in the part.
@@ -153,8 +141,9 @@ impl<'a> Slot<'a> {
         })
     }
 
+    // Registration k of the eight, used or not.
     #[tactic(auto, unfolding(ledger::specs::Store::registration_at))]
-    fn registration(self, k: u64) -> Registration
+    pub fn registration(self, k: u64) -> Registration
         requires { k < 8 }
         ensures { registration_meant result ≡ registration_at self.entry.slots self.entry.meters.now self.entry.slot k }
     {
@@ -168,19 +157,34 @@ impl<'a> Slot<'a> {
         }
     }
 
+    // The place of the latest, of those not past the bound. With none yet the best key is 0, which every key reaches. A place and a key,
+    // since five entries kept from turn to turn take longer.
     #[tactic(auto, using(crate::proofs::Laws::used_turns), unfolding(ledger::specs::Store::registrations_at, ledger::specs::Checks::latest_from))]
+    fn latest_place(self, key: Key, bound: u64) -> Option<u64>
+        ensures within { IfSome result (λ k. k < 8) }
+        ensures latest { placed self.entry.slots self.entry.meters.now self.entry.slot result ≡ latest_from (key_by key) bound none (registrations_at self.entry.slots self.entry.meters.now self.entry.slot) }
+    {
+        let mut best = None;
+        let mut best_key = 0;
+        for k in 0..8 {
+            let next = self.registration(k);
+            if next.status == 0 {
+                return best;
+            }
+            let next_key = key.of(next);
+            if takes_over(bound, best_key, next_key) {
+                best = Some(k);
+                best_key = next_key;
+            }
+        }
+        best
+    }
+
     fn latest(self, key: Key, bound: u64) -> Option<Registration>
         ensures { found_meant result ≡ latest_from (key_by key) bound none (registrations_at self.entry.slots self.entry.meters.now self.entry.slot) }
     {
-        let mut best = None;
-        for k in 0..8 {
-            let registration = self.registration(k);
-            if registration.status == 0 {
-                return best;
-            }
-            best = later(key, bound, best, registration);
-        }
-        best
+        let k = self.latest_place(key, bound)?;
+        Some(self.registration(k))
     }
 
     // The registration that gives category, status and limit on a date.
