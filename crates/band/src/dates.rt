@@ -1,6 +1,6 @@
 // The walk over the store's dates, by the days.
-ghost use Rattle.std.specs.Prelude.{◌≡◌, cond, ◌+◌, ◌<◌, length, set};
-ghost use Rattle.ledger.specs.Store.{categories_of, dates_of};
+ghost use Rattle.std.specs.Prelude.{◌≡◌, cond, ◌+◌, ◌<◌, length, get_or, set};
+ghost use Rattle.ledger.specs.Store.{categories_of, dates_of, day_type_of};
 ghost use Rattle.ledger.specs.Table.{chosen_below};
 ghost use Rattle.band.specs.Search.{is_sought, listed};
 
@@ -17,15 +17,24 @@ pub struct Sought {
     pub most: u64,
 }
 
+// The number of dates and their day types come once from the settings, whose header the walk would read again for each date.
 #[tactic(auto, using(crate::proofs::Laws::other_type, crate::proofs::Laws::not_run_lem))]
-fn in_band(days: Days, category: u64, sought: Sought, date: u64) -> bool
-    requires { (category < categories_of days.settings.bytes.now) × (date < dates_of days.settings.bytes.now) }
+fn in_band(
+    days: Days,
+    dates: u64,
+    day_types: &[u8],
+    category: u64,
+    sought: Sought,
+    date: u64,
+) -> bool
+    requires in_settings { (category < categories_of days.settings.bytes.now) × (date < dates_of days.settings.bytes.now) }
+    requires from_settings { (dates ≡ dates_of days.settings.bytes.now) × (length day_types.now ≡ dates_of days.settings.bytes.now) × (get_or day_types.now date 0 ≡ day_type_of days.settings.bytes.now date) }
     ensures { result ≡ is_sought days.entry.settings.bytes.now days.entry.entries.now category sought date }
 {
-    if days.settings.day_type(date) != sought.day_type {
+    let day_type = u64::from(day_types[date as usize]);
+    if day_type != sought.day_type {
         return false;
     }
-    let dates = days.settings.date_count();
     if !is_run_day(dates, category, days.entries, date) {
         return false;
     }
@@ -55,9 +64,10 @@ pub fn list_dates(days: Days, category: u64, sought: Sought, dates: &mut [u64]) 
     ensures dates_after { dates.new ≡ listed (chosen_below (dates_of days.entry.settings.bytes.now) (is_sought days.entry.settings.bytes.now days.entry.entries.now category sought)) dates.old }
 {
     let count = days.settings.date_count();
+    let day_types = days.settings.day_types();
     let mut found = 0;
     for date in 0..count {
-        let matches = in_band(days, category, sought, date);
+        let matches = in_band(days, count, day_types, category, sought, date);
         found = with_date(dates, found, matches, date);
     }
     found

@@ -1,5 +1,5 @@
 // A kept category record's fields, and the day types.
-ghost use Rattle.std.specs.Prelude.{◌≡◌, ◌+◌, ◌*◌, ◌<◌, drop};
+ghost use Rattle.std.specs.Prelude.{◌≡◌, ℕ, ◌+◌, ◌*◌, ◌<◌, drop, length, get_or};
 ghost use Rattle.settings.specs.Access.{Byte};
 ghost use Rattle.ledger.specs.Sizes.{header_length};
 ghost use Rattle.ledger.specs.Method.{is_smart, same_family};
@@ -114,5 +114,16 @@ impl<'a> Settings<'a> {
         ensures { result ≡ day_type_of self.entry.bytes.now date }
     {
         byte_at(self.bytes, HEADER_LENGTH + 8 * self.category_count() + date)
+    }
+
+    // All of them, a byte for each date: a walk over the dates then reads the header once.
+    #[tactic(auto, using(crate::proofs::Laws::ready_bounds, ledger::proofs::Lists::part_length, ledger::proofs::Lists::part_at), unfolding(ledger::specs::Store::day_type_of))]
+    pub fn day_types(self) -> &'a [u8]
+        ensures long { length result.now ≡ dates_of self.entry.bytes.now }
+        ensures of_each { (date : ℕ) → date < dates_of self.entry.bytes.now → get_or result.now date 0 ≡ day_type_of self.entry.bytes.now date }
+    {
+        let start = (HEADER_LENGTH + 8 * self.category_count()) as usize;
+        let end = start + self.date_count() as usize;
+        &self.bytes[start..end]
     }
 }
