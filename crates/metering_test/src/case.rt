@@ -1,7 +1,9 @@
 // A case is a line of 53 bytes: a letter for its kind, then three operands of 16 hexadecimal digits, each after a blank.
 ghost use Rattle.std.specs.Prelude.{◌<◌};
 
-fn digit(c: u8) -> u8 {
+fn digit(c: u8) -> u8
+    ensures { result < 16 }
+{
     if c < b'a' { c % 16 } else { (c % 16 + 9) % 16 }
 }
 
