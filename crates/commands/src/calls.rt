@@ -13,7 +13,7 @@ use crate::capacity::{Capacity, parts_suffice};
 use engine::OpeningTerms;
 use input::operands::{number, opening_operands, reception_operands, registration_operands};
 use output::append::append;
-use output::lines::answer_line;
+use output::lines::append_answer_line;
 
 // The windows are METH005's. An opening that the parts do not suffice for is lent empty ones.
 pub fn open(
@@ -53,7 +53,7 @@ pub fn open(
             category_records,
             day_types,
         );
-        return answer_line(0x10, outcome, out, at);
+        return append_answer_line(0x10, outcome, out, at);
     }
     let outcome = engine::open(
         &mut settings[..0],
@@ -66,7 +66,7 @@ pub fn open(
         category_records,
         day_types,
     );
-    answer_line(0x10, outcome, out, at)
+    append_answer_line(0x10, outcome, out, at)
 }
 
 // It is lent what the call reads and writes and no more, as are those below: a struct of all parts would leave open which it keeps.
@@ -96,7 +96,7 @@ fn register(
         given.status,
         given.limit,
     );
-    answer_line(0x13, outcome, out, at)
+    append_answer_line(0x13, outcome, out, at)
 }
 
 // The records of a reception without their 15s; answers how many bytes they are.
@@ -140,7 +140,7 @@ fn receive(
         given.quantity,
         &body[..length],
     );
-    answer_line(0x14, outcome, out, at)
+    append_answer_line(0x14, outcome, out, at)
 }
 
 fn run(
@@ -167,7 +167,7 @@ fn run(
         days,
         number::<2>(command, 1),
     );
-    answer_line(0x16, outcome, out, at)
+    append_answer_line(0x16, outcome, out, at)
 }
 
 fn totals(command: &[u8], settings: &[u8], days: &[u64], out: &mut [u8], at: usize) -> usize
@@ -181,7 +181,7 @@ fn totals(command: &[u8], settings: &[u8], days: &[u64], out: &mut [u8], at: usi
         number::<2>(command, 1),
         number::<1>(command, 3),
     );
-    answer_line(0x17, outcome, out, at)
+    append_answer_line(0x17, outcome, out, at)
 }
 
 fn cell(command: &[u8], settings: &[u8], cells: &[u64], out: &mut [u8], at: usize) -> usize
@@ -196,7 +196,7 @@ fn cell(command: &[u8], settings: &[u8], cells: &[u64], out: &mut [u8], at: usiz
         number::<1>(command, 3),
         number::<1>(command, 4),
     );
-    answer_line(0x18, outcome, out, at)
+    append_answer_line(0x18, outcome, out, at)
 }
 
 // A command that asks the opened store. A match by its code and no table of closures: each call is lent other parts.

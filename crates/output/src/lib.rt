@@ -2,4 +2,7 @@
 #![tactic(auto)]
 
 pub mod append;
+pub mod line;
 pub mod lines;
+#[cfg(test)]
+mod tests;

@@ -1,5 +1,5 @@
-// The answer lines, each behind what the output holds already.
-ghost use Rattle.std.specs.Prelude.{◌+◌, ◌≤◌, length};
+// The answer lines: each behind what the output holds already, and by value.
+ghost use Rattle.std.specs.Prelude.{◌≡◌, ◌+◌, ◌≤◌, length};
 ghost use Rattle.ledger.specs.Ledger.{Answer, accepted, moved, totals_are, cell_is};
 ghost use Rattle.entries.specs.Cell.{cell_meant};
 ghost use Rattle.store.specs.Outcome.{answered, refusal_answer, totals_meant};
@@ -7,6 +7,7 @@ ghost use Rattle.output.specs.Text.{Appended};
 ghost use Rattle.output.specs.Lines.{command_text, accepted_text, energies_text, totals_text, origin_word, cell_text, answer_line};
 
 use crate::append::{append, append_byte, append_energy, append_number, append_signed};
+use crate::line::Line;
 use entries::cell::{Cell, letter};
 use store::outcome::Totals;
 use store::refusal::Refusal;
@@ -27,32 +28,32 @@ fn append_accepted(out: &mut [u8], at: usize, code: u8) -> usize
     append(out, next, b" ok")
 }
 
-// What a call gives, as the ledger's answer and as its line.
-pub trait Shown {
+// What a call gives, as the ledger's answer and as its line behind what the output holds.
+pub trait AppendLine {
     ghost answer: { Self → Answer };
 
-    fn line(self, code: u8, out: &mut [u8], at: usize) -> usize
+    fn append_line(self, code: u8, out: &mut [u8], at: usize) -> usize
         requires { at + 300 ≤ length out.old }
         ensures appended { Appended out.old at out.new result (answer_line code (answer self)) }
         ensures upper_bound { result ≤ at + 300 };
 }
 
-impl Shown for () {
+impl AppendLine for () {
     ghost answer = { λ _. accepted };
 
     #[tactic(auto, unfolding(crate::specs::Lines::answer_line))]
-    fn line(self, code: u8, out: &mut [u8], at: usize) -> usize {
+    fn append_line(self, code: u8, out: &mut [u8], at: usize) -> usize {
         let next = append_accepted(out, at, code);
         append_byte(out, next, b'\n')
     }
 }
 
 // How many cells moved.
-impl Shown for u64 {
+impl AppendLine for u64 {
     ghost answer = { moved };
 
     #[tactic(auto, unfolding(crate::specs::Lines::answer_line))]
-    fn line(self, code: u8, out: &mut [u8], at: usize) -> usize {
+    fn append_line(self, code: u8, out: &mut [u8], at: usize) -> usize {
         let mut next = append_accepted(out, at, code);
         next = append_number(out, next, self);
         append_byte(out, next, b'\n')
@@ -84,11 +85,11 @@ fn append_figures(out: &mut [u8], at: usize, totals: Totals) -> usize
     append_number(out, next, totals.blanks)
 }
 
-impl Shown for Totals {
+impl AppendLine for Totals {
     ghost answer = { λ t. totals_are (totals_meant t) };
 
     #[tactic(auto, unfolding(crate::specs::Lines::answer_line))]
-    fn line(self, code: u8, out: &mut [u8], at: usize) -> usize {
+    fn append_line(self, code: u8, out: &mut [u8], at: usize) -> usize {
         let mut next = append_accepted(out, at, code);
         next = append_figures(out, next, self);
         append_byte(out, next, b'\n')
@@ -121,22 +122,22 @@ fn append_fields(out: &mut [u8], at: usize, cell: Cell) -> usize
     append_signed(out, next, cell.remainder)
 }
 
-impl Shown for Cell {
+impl AppendLine for Cell {
     ghost answer = { λ a. cell_is (cell_meant a) };
 
     #[tactic(auto, unfolding(crate::specs::Lines::answer_line))]
-    fn line(self, code: u8, out: &mut [u8], at: usize) -> usize {
+    fn append_line(self, code: u8, out: &mut [u8], at: usize) -> usize {
         let mut next = append_accepted(out, at, code);
         next = append_fields(out, next, self);
         append_byte(out, next, b'\n')
     }
 }
 
-impl Shown for Refusal {
+impl AppendLine for Refusal {
     ghost answer = { refusal_answer };
 
     #[tactic(auto, unfolding(crate::specs::Lines::answer_line))]
-    fn line(self, code: u8, out: &mut [u8], at: usize) -> usize {
+    fn append_line(self, code: u8, out: &mut [u8], at: usize) -> usize {
         let mut next = append_command(out, at, code);
         next = append(out, next, b" no");
         next = append_number(out, next, self.check.number());
@@ -146,7 +147,7 @@ impl Shown for Refusal {
 }
 
 // The line for the answer to a command.
-pub fn answer_line<T: Shown>(
+pub fn append_answer_line<T: AppendLine>(
     code: u8,
     outcome: Result<T, Refusal>,
     out: &mut [u8],
@@ -157,7 +158,37 @@ pub fn answer_line<T: Shown>(
     ensures upper_bound { result ≤ at + 300 }
 {
     match outcome {
-        Ok(given) => given.line(code, out, at),
-        Err(refusal) => refusal.line(code, out, at),
+        Ok(given) => given.append_line(code, out, at),
+        Err(refusal) => refusal.append_line(code, out, at),
+    }
+}
+
+// What a call gives, as the ledger's answer and as its line by value, for a caller that keeps it.
+pub trait Shown {
+    ghost answer: { Self → Answer };
+
+    fn line(self, code: u8) -> Line
+        ensures { result.items ≡ answer_line code (answer self) };
+}
+
+impl<T: AppendLine> Shown for T {
+    ghost answer = { T.answer };
+
+    fn line(self, code: u8) -> Line {
+        let mut text = [0u8; 300];
+        let length = self.append_line(code, &mut text, 0);
+        let mut line = Line::new();
+        line.try_extend_from_slice(&text[..length]).unwrap();
+        line
+    }
+}
+
+// The line for the answer to a command, by value.
+pub fn answer_line<T: Shown>(code: u8, outcome: Result<T, Refusal>) -> Line
+    ensures { result.items ≡ answer_line code (answered T.answer outcome) }
+{
+    match outcome {
+        Ok(given) => given.line(code),
+        Err(refusal) => refusal.line(code),
     }
 }

@@ -20,7 +20,7 @@ pub returns-then-parts_suffice-clause-appended : goal.returns-then-parts_suffice
 returns-then-parts_suffice-clause-appended c =
     let enough = sym (suffices (goal.at.returns-then-parts_suffice-clause-appended c).After-parts_suffice) ∙ c.if-parts_suffice.true in
     let opened = rw c.opening_operands-given.ensures at c.open-outcome.ensures in
-    lent_line c.args.capacity (parts (goal.at.returns-then-parts_suffice-clause-appended c).After-parts_suffice) (asked (goal.at.returns-then-parts_suffice-clause-appended c).After-parts_suffice) enough opened c.answer_line.ensures.appended
+    lent_line c.args.capacity (parts (goal.at.returns-then-parts_suffice-clause-appended c).After-parts_suffice) (asked (goal.at.returns-then-parts_suffice-clause-appended c).After-parts_suffice) enough opened c.append_answer_line.ensures.appended
 
 pub returns-then-parts_suffice-clause-days_after : goal.returns-then-parts_suffice-clause-days_after
 returns-then-parts_suffice-clause-days_after c =
@@ -32,7 +32,7 @@ pub returns-clause-appended : goal.returns-clause-appended
 returns-clause-appended c =
     let short = sym (suffices (goal.at.returns-clause-appended c).After-parts_suffice) ∙ c.if-parts_suffice.false in
     let opened = rw c.opening_operands-given.ensures at c.open-outcome-2.ensures in
-    kept_line c.args.capacity (parts (goal.at.returns-clause-appended c).After-parts_suffice) (asked (goal.at.returns-clause-appended c).After-parts_suffice) short opened c.answer_line-2.ensures.appended
+    kept_line c.args.capacity (parts (goal.at.returns-clause-appended c).After-parts_suffice) (asked (goal.at.returns-clause-appended c).After-parts_suffice) short opened c.append_answer_line-2.ensures.appended
 
 pub returns-clause-days_after : goal.returns-clause-days_after
 returns-clause-days_after c =
