@@ -171,6 +171,7 @@ pub trait Shown {
         ensures { result.items ≡ answer_line code (answer self) };
 }
 
+// From the text that `append_line` writes, so that each type says its line once.
 impl<T: AppendLine> Shown for T {
     ghost answer = { T.answer };
 
