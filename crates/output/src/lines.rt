@@ -178,9 +178,7 @@ impl<T: AppendLine> Shown for T {
     fn line(self, code: u8) -> Line {
         let mut text = [0u8; 300];
         let length = self.append_line(code, &mut text, 0);
-        let mut line = Line::new();
-        line.try_extend_from_slice(&text[..length]).unwrap();
-        line
+        Line::try_from(&text[..length]).unwrap()
     }
 }
 
